@@ -1,0 +1,85 @@
+-- Document 01, 'Choosing a frame': no frame is chosen exactly if no class qualifies, and the chosen class is the highest that does. In order: the highest
+-- class that passes a test; the same of the choice; the speeds and durations.
+-- Assumes nothing.
+use mathlib.Core.Path.{_≡_, refl, sym, _∙_}
+use mathlib.Core.Logic.{_↔_}
+use mathlib.Core.Bool.{Bool, true, false, cond, true≢false}
+use mathlib.Core.List.{List, [], _∷_}
+use mathlib.Core.Option.{Option, none, some}
+use Prim.Native.Nat.{ℕ, zero, suc, _+_, _*_, _/_, _≤_, _<_}
+use native.Mathlib.Nat.{le-div-iff-mul-le}
+use native.Mathlib.Omega.{arith}
+use lib.Dec.{eqb}
+use lib.ListN.{getD}
+use borrow.Author.Tests.{eqb-true, eqb-false}
+use Rattle.rule.specs.Port.{Frame}
+use Rattle.rule.specs.Choice.{duration, qualifies, highest, frameFor, chosen}
+use Rattle.rule.specs.Acts.{isSome}
+use Rattle.rule.specs.Orders.{speedOffered}
+
+-- what is found below n: nothing, and no class passes; or a class that passes, and none above it does
+abbrev pub Highest : (ℕ → Bool) → ℕ → Option ℕ → Type 0
+Highest q n none = (j : ℕ) → j < n → q j ≡ false
+Highest q n (some k) = (k < n) × ((q k ≡ true) × ((j : ℕ) → k < j → j < n → q j ≡ false))
+
+pub highest-is : (q : ℕ → Bool) (n : ℕ) → Highest q n (highest q n)
+unfolding highest
+highest-is q zero = λ j h. absurd (omega arith)
+highest-is q (suc n) = go (q n) refl (highest q n) (highest-is q n)
+  where
+    at-top : (j : ℕ) → n ≤ j → j < suc n → q n ≡ false → q j ≡ false
+    at-top j a b e = let z : j ≡ n = omega arith in rw z e
+
+    below : (j : ℕ) → j < suc n → q n ≡ false → (j < n → q j ≡ false) → q j ≡ false
+    below j h e f = pick (eqb j n) refl
+      where
+        pick : (b : Bool) → eqb j n ≡ b → q j ≡ false
+        pick true z = at-top j (omega (arith, eqb-true)) h e
+        pick false z = f (omega (arith, eqb-false))
+
+    go : (b : Bool) → q n ≡ b → (r : Option ℕ) → Highest q n r → Highest q (suc n) (cond b (some n) r)
+    go true e r k = (omega arith, (e, λ j a b. absurd (omega arith)))
+    go false e none k = λ j h. below j h e (k j)
+    go false e (some m) k = (omega (arith, k .0), (k .1 .0, λ j a b. below j b e (k .1 .1 j a)))
+
+-- the frame of the choice at t: none, and no class qualifies; or that of the highest class that does
+abbrev pub Chosen : List ℕ → ℕ → ℕ → (ℕ → Bool) → Option Frame → Type 0
+Chosen heads speed t q none = (j : ℕ) → j < 8 → q j ≡ false
+Chosen heads speed t q (some f) =
+    Highest q 8 (some (f .class)) × (f ≡ record { class = f .class; start = t; end = t + duration (getD heads (f .class) 0) speed; counted = false })
+
+module _ (heads : List ℕ) (speed t octet : ℕ) (g : ℕ → ℕ) where
+  pub chosen-is : Chosen heads speed t (qualifies heads speed t octet g) (chosen heads speed t octet g)
+  unfolding chosen frameFor
+  chosen-is = go (highest (qualifies heads speed t octet g) 8) (highest-is (qualifies heads speed t octet g) 8)
+    where
+      go : (r : Option ℕ) → Highest (qualifies heads speed t octet g) 8 r → Chosen heads speed t (qualifies heads speed t octet g) (frameFor heads speed t r)
+      go none h = h
+      go (some k) h = (h, refl)
+
+  -- no frame is chosen exactly if no class qualifies
+  pub chosen-none : (isSome (chosen heads speed t octet g) ≡ false) ↔ ((j : ℕ) → j < 8 → qualifies heads speed t octet g j ≡ false)
+  chosen-none = go (chosen heads speed t octet g) chosen-is
+    where
+      go : (r : Option Frame) → Chosen heads speed t (qualifies heads speed t octet g) r
+          → (isSome r ≡ false) ↔ ((j : ℕ) → j < 8 → qualifies heads speed t octet g j ≡ false)
+      go none h = (λ _. h, λ _. refl)
+      go (some f) h =
+          (λ e. absurd (true≢false e), λ k. absurd (true≢false (sym (h .0 .1 .0) ∙ k (f .class) (h .0 .0))))
+
+-- the speeds that are offered, and that a frame takes some time at each
+
+pub speed-range : (v : ℕ) → speedOffered v ≡ true → (10 ≤ v) × (v ≤ 1_000)
+unfolding speedOffered
+speed-range v h = go (eqb v 10) refl (eqb v 100) refl (eqb v 1_000) refl h
+  where
+    go : (a : Bool) → eqb v 10 ≡ a → (b : Bool) → eqb v 100 ≡ b → (c : Bool) → eqb v 1_000 ≡ c
+        → cond a true (cond b true (cond c true false)) ≡ true → (10 ≤ v) × (v ≤ 1_000)
+    go true p b q c r h = (omega (arith, eqb-true), omega (arith, eqb-true))
+    go false p true q c r h = (omega (arith, eqb-true), omega (arith, eqb-true))
+    go false p false q true r h = (omega (arith, eqb-true), omega (arith, eqb-true))
+    go false p false q false r h = absurd (true≢false (sym h))
+
+pub duration-some : (n v : ℕ) → 0 < v → v ≤ 1_000 → 0 < duration n v
+unfolding duration
+duration-some n v p q = le-div-iff-mul-le p .1 (omega arith)

@@ -1,0 +1,16 @@
+pub mod Cut
+pub mod Reach
+pub mod Shown
+pub mod Entries
+pub mod Cycles
+pub mod Last
+pub mod Orders
+pub mod Choice
+pub mod Track
+pub mod Told
+pub mod Jump
+pub mod Overrun
+pub mod Demand3
+pub mod Walk
+pub mod Regime
+pub mod Sound

@@ -1,0 +1,93 @@
+-- The changes that a series of calls reports, joined end to end, are those of the rule over the accepted acts (`run-told`). Assumes nothing.
+use mathlib.Core.Path.{_≡_, refl, ap, sym, _∙_, subst}
+use mathlib.Core.Bool.{Bool, true, false, cond}
+use mathlib.Core.List.{List, [], _∷_, _++_, append-assoc}
+use Prim.Native.Nat.{ℕ, zero, suc, _+_, _-_, _^_, _%_, _≤_, _<_}
+use native.Mathlib.Nat.{zero-add, suc-add, add-suc, add-zero, sub-self}
+use native.Mathlib.Numerals.{add-one}
+use native.Mathlib.Omega.{arith}
+use lib.Dec.{eqb}
+use borrow.Author.Tests.{eq-eqb}
+use Rattle.rule.specs.Port.{Port, shown, shownNow, tick}
+use Rattle.rule.specs.Acts.{Act, perform}
+use Rattle.rule.specs.Orders.{accepts}
+use Rattle.rule.specs.Machine.{ticks, noted, log, Call, step, attempt, Outcome, run, elapsed}
+use Rattle.rule.specs.PortMachine.{clock-perform, machine}
+use Rattle.rule.specs.History.{History, ruleOctet, changes, ruleChanges}
+use Rattle.rule.proofs.Cut.{cases, clock-ticks, From, run-from}
+use Rattle.rule.proofs.Shown.{now-ticks}
+use Rattle.rule.proofs.Track.{Tracks, tracks-ticks, tracks-shown, tracks-perform}
+
+cond-append : (b : Bool) (x : ℕ × ℕ) (l r : List (ℕ × ℕ)) → cond b (l ++ r) (x ∷ (l ++ r)) ≡ cond b l (x ∷ l) ++ r
+cond-append true x l r = refl
+cond-append false x l r = refl
+
+pub changes-add : (f : ℕ → ℕ) (lo m n : ℕ) → changes f lo (m + n) ≡ changes f lo m ++ changes f (lo + m) n
+unfolding changes
+changes-add f lo zero n = rw (zero-add, add-zero)
+changes-add f lo (suc m) n = rw (suc-add, add-suc, ← suc-add, changes-add f (suc lo) m n)
+    (cond-append (eqb (f lo) (f (suc lo))) (suc lo, f (suc lo)) (changes f (suc lo) m) (changes f (suc lo + m) n))
+
+-- a stretch on which nothing changes
+pub quiet : (f : ℕ → ℕ) (lo n : ℕ) → ((t : ℕ) → lo ≤ t → t < lo + n → f (suc t) ≡ f t) → changes f lo n ≡ []
+unfolding changes
+quiet f lo zero h = refl
+quiet f lo (suc n) h = rw (eq-eqb (f lo) (f (suc lo)) (sym (h lo (omega arith) (omega arith)))) (quiet f (suc lo) n (λ t a b. h t (omega arith) (omega arith)))
+
+-- the machine's log, by what it shows at each instant
+noted-cond : (b : Bool) (p : Port) (l : List (ℕ × ℕ)) → noted machine b p l ≡ cond b l ((p .clock, shownNow p) ∷ l)
+unfolding noted
+noted-cond true p l = refl
+noted-cond false p l = refl
+
+log-by : (f : ℕ → ℕ) (n : ℕ) (p : Port) → ((k : ℕ) → shownNow (ticks machine k p) ≡ f (p .clock + k)) → log machine n p ≡ changes f (p .clock) n
+unfolding log changes ticks tick
+log-by f zero p h = refl
+log-by f (suc n) p h =
+    let e₀ : shownNow p ≡ f (p .clock) = rw add-zero at (h 0) in
+    let e₁ : shownNow (tick p) ≡ f (suc (p .clock)) = rw add-one at (h 1) in
+    let r : log machine n (tick p) ≡ changes f (suc (p .clock)) n = log-by f n (tick p) (λ k. rw (suc-add, ← add-suc) (h (suc k))) in
+    noted-cond (eqb (shownNow p) (shownNow (tick p))) (tick p) (log machine n (tick p))
+    ∙ (λ i. cond (eqb (e₀ i) (e₁ i)) (r i) ((suc (p .clock), e₁ i) ∷ r i))
+
+pub log-shown : (n : ℕ) (p : Port) → log machine n p ≡ changes (shown p) (p .clock) n
+log-shown n p = log-by (shown p) n p (λ k. now-ticks k p)
+
+log-rule : {s₀ : ℕ} {h : History} (n : ℕ) {p : Port} → Tracks s₀ h p → log machine n p ≡ changes (ruleOctet s₀ h) (p .clock) n
+log-rule {s₀} {h} n {p} k = log-by (ruleOctet s₀ h) n p (λ j. now-ticks j p ∙ tracks-shown k (p .clock + j) (omega arith))
+
+-- to go to t is to go on to t from a stop on the way
+pub changes-to : (f : ℕ → ℕ) (lo k t : ℕ) → lo + k ≤ t → changes f lo (t - lo) ≡ changes f lo k ++ changes f (lo + k) (t - (lo + k))
+changes-to f lo k t h =
+    let e : t - lo ≡ k + (t - (lo + k)) = omega arith in
+    ap (changes f lo) e ∙ changes-add f lo k (t - (lo + k))
+
+told-cut : (s₀ : ℕ) (h : History) (lo k : ℕ) (l : List (ℕ × Act)) (e : ℕ) → From machine (lo + k) l e
+    → ruleChanges s₀ h lo l e ≡ changes (ruleOctet s₀ h) lo k ++ ruleChanges s₀ h (lo + k) l e
+unfolding ruleChanges From
+told-cut s₀ h lo k [] e c = changes-to (ruleOctet s₀ h) lo k e c
+told-cut s₀ h lo k (x ∷ l) e c = rw (changes-to (ruleOctet s₀ h) lo k (x .0) c, append-assoc)
+
+none-yet : (f : ℕ → ℕ) (lo : ℕ) → changes f lo (lo - lo) ≡ []
+unfolding changes
+none-yet f lo = rw sub-self
+
+pub run-told : {s₀ : ℕ} (cs : List (Call Act)) {h : History} {p : Port} → Tracks s₀ h p
+    → run machine cs p .out ≡ ruleChanges s₀ h (p .clock) (run machine cs p .acts) (run machine cs p .port .clock)
+unfolding run ruleChanges
+run-told {s₀} [] {h} {p} k = sym (none-yet (ruleOctet s₀ h) (p .clock))
+run-told {s₀} (step g m ∷ cs) {h} {p} k =
+    let n : ℕ = elapsed machine (step g m) p in
+    let q : Port = ticks machine n p in
+    let r = run machine cs q in
+    (λ i. log-rule n k i ++ run-told cs (tracks-ticks n k) i)
+    ∙ ap (λ t. changes (ruleOctet s₀ h) (p .clock) n ++ ruleChanges s₀ h t (r .acts) (r .port .clock)) (clock-ticks machine n p)
+    ∙ sym (told-cut s₀ h (p .clock) n (r .acts) (r .port .clock)
+    (subst (λ t. From machine t (r .acts) (r .port .clock)) (clock-ticks machine n p) (run-from machine cs q)))
+run-told {s₀} (attempt a ∷ cs) {h} {p} k =
+    cases (λ (r : Outcome Port ℕ Act). r .out ≡ ruleChanges s₀ h (p .clock) (r .acts) (r .port .clock)) (accepts a p) _ _
+    (λ e. let r = run machine cs (perform a p) in
+    run-told cs (tracks-perform a e k)
+    ∙ ap (λ t. ruleChanges s₀ ((p .clock, a) ∷ h) t (r .acts) (r .port .clock)) (clock-perform a p)
+    ∙ ap (λ l. l ++ ruleChanges s₀ ((p .clock, a) ∷ h) (p .clock) (r .acts) (r .port .clock)) (sym (none-yet (ruleOctet s₀ h) (p .clock))))
+    (λ _. run-told cs k)

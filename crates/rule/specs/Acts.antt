@@ -1,0 +1,92 @@
+-- Document 01, 'What the gates show': the acts on, off, standing, submit (8.6.9.3.1) and transmit (8.6.8.4). Acts happen at the clock's instant; the
+-- overrun test follows each.
+-- Where 01 narrows the standard: writing the admin values and ConfigChange are one act; ConfigChangeError counts if a configuration operates.
+-- Assumes nothing.
+use mathlib.Core.Bool.{Bool, true, false, cond, _&&_}
+use mathlib.Core.List.{List}
+use mathlib.Core.Option.{Option, none, some}
+use Prim.Native.Nat.{ℕ}
+use lib.Dec.{ltb}
+use Rattle.rule.specs.Entries.{Entry}
+use Rattle.rule.specs.Cycle.{Config, cycleOf, startingAt, changeInstant}
+use Rattle.rule.specs.Port.{Port, Waiting, Frame, raise, shownNow, operatingAt, waitingAt, tested}
+use Rattle.rule.specs.Choice.{lookAhead, chosen}
+
+-- what is submitted: the cycle in seconds, the extension in ns, the base time
+pub record Submission : Type 0 where
+  pub numerator : ℕ
+  pub denominator : ℕ
+  pub extension : ℕ
+  pub base : ℕ
+  pub list : List Entry
+
+pub data Act : Type 0 where
+  on off : Act
+  standing : ℕ → Act
+  submit : Submission → Act
+  transmit : (heads : List ℕ) (speed : ℕ) → Act
+
+abbrev pub isSome : {A : Type 0} → Option A → Bool
+isSome none = false
+isSome (some a) = true
+
+-- the port with another mark and standing octet, and with another operating and waiting configuration
+abbrev pub withGates : Bool → ℕ → Option Config → Option Waiting → Port → Port
+withGates mark octet o w p = record {
+  clock = p .clock;
+  on = mark;
+  standing = octet;
+  operating = o;
+  waiting = w;
+  frame = p .frame;
+  errors = p .errors;
+  overruns = p .overruns;
+}
+
+-- the configuration that a submission at a brings, begun at its change instant
+unfoldable pub configOf : ℕ → Submission → Config
+configOf a x =
+    let f : Config = record { start = x .base; cycle = cycleOf (x .numerator) (x .denominator); extension = x .extension; list = x .list } in
+    startingAt (changeInstant f (x .base) a) f
+
+-- ConfigChangeError goes up by one if the base time is past and a configuration is operating
+unfoldable pub errorsAfter : ℕ → Submission → Option Config → ℕ → ℕ
+errorsAfter a x o n = cond (ltb (x .base) a && isSome o) (raise n) n
+
+-- it waits from the clock on, unless its change instant is now: what is due then happens at once
+unfoldable pub submitted : Submission → Port → Port
+submitted x p =
+    let w : Option Waiting = some (record { config = configOf (p .clock) x; since = p .clock }) in
+    record {
+      clock = p .clock;
+      on = p .on;
+      standing = p .standing;
+      operating = operatingAt (p .clock) (p .operating) w;
+      waiting = waitingAt (p .clock) w;
+      frame = p .frame;
+      errors = errorsAfter (p .clock) x (p .operating) (p .errors);
+      overruns = p .overruns;
+    }
+
+abbrev pub sending : Option Frame → Port → Port
+sending f p = record {
+  clock = p .clock;
+  on = p .on;
+  standing = p .standing;
+  operating = p .operating;
+  waiting = p .waiting;
+  frame = f;
+  errors = p .errors;
+  overruns = p .overruns;
+}
+
+-- the act itself, and with the overrun test
+abbrev pub performed : Act → Port → Port
+performed on p = withGates true (p .standing) (p .operating) (p .waiting) p
+performed off p = withGates false (p .standing) none none p
+performed (standing octet) p = withGates (p .on) octet (p .operating) (p .waiting) p
+performed (submit x) p = submitted x p
+performed (transmit heads speed) p = sending (chosen heads speed (p .clock) (shownNow p) (lookAhead p)) p
+
+unfoldable pub perform : Act → Port → Port
+perform a p = tested (performed a p)

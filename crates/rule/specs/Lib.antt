@@ -1,0 +1,13 @@
+pub mod Limits
+pub mod Refusals
+pub mod Gates
+pub mod Entries
+pub mod Cycle
+pub mod Port
+pub mod Choice
+pub mod Acts
+pub mod Orders
+pub mod Machine
+pub mod PortMachine
+pub mod History
+pub mod Sound

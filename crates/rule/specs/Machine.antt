@@ -1,0 +1,100 @@
+-- A machine that goes on by one nanosecond at a time, is acted on between, and shows something at every instant. Nothing of gates is in it: cutting a
+-- span into steps, the room of each step and refused calls (document 01, 'Step', and demand 3) are spoken of here, once.
+-- Assumes nothing.
+use mathlib.Core.Path.{_≡_}
+use mathlib.Core.Bool.{Bool, true, false, cond}
+use mathlib.Core.List.{List, [], _∷_, _++_}
+use Prim.Native.Nat.{ℕ, zero, suc, _-_}
+
+pub record Machine : Type 1 where
+  pub State : Type 0
+  pub Out : Type 0
+  pub Act : Type 0
+  -- the instant at which it stands; the next instant's state; what it shows; whether two of those are one
+  pub clock : State → ℕ
+  pub tick : State → State
+  pub now : State → Out
+  pub same : Out → Out → Bool
+  -- whether an act is accepted, what it does if it is; whether the goal of a step is accepted
+  pub accepts : Act → State → Bool
+  pub perform : Act → State → State
+  pub acceptsGoal : ℕ → State → Bool
+  -- the laws: a tick is one instant, an act takes no time
+  pub clock-tick : (s : State) → clock (tick s) ≡ suc (clock s)
+  pub clock-perform : (a : Act) (s : State) → clock (perform a s) ≡ clock s
+
+-- a call: a step towards a goal with room for so many changes, or an act; either may be refused
+pub data Call (A : Type 0) : Type 0 where
+  step : (goal room : ℕ) → Call A
+  attempt : A → Call A
+
+-- what a series of calls comes to: the final state, the changes joined end to end, the accepted acts with their instants
+pub record Outcome (S O A : Type 0) : Type 0 where
+  pub port : S
+  pub out : List (ℕ × O)
+  pub acts : List (ℕ × A)
+
+abbrev pub withAct : {S O A : Type 0} → ℕ → A → Outcome S O A → Outcome S O A
+withAct t a r = record { port = r .port; out = r .out; acts = (t, a) ∷ r .acts }
+
+-- one instant more, and the rest by f with the room that is left; a change wants room
+abbrev pub onward : Bool → ℕ → (ℕ → ℕ) → ℕ
+onward true m f = suc (f m)
+onward false zero f = 0
+onward false (suc r) f = suc (f r)
+
+module _ (M : Machine) where
+  open Machine M using (State, Out, Act, clock, tick, now, same, accepts, perform, acceptsGoal)
+
+  unfoldable pub ticks : ℕ → State → State
+  ticks zero s = s
+  ticks (suc n) s = ticks n (tick s)
+
+  -- a change, instant and what is shown from then on, in front of the later ones; the test says that nothing changed
+  unfoldable pub noted : Bool → State → List (ℕ × Out) → List (ℕ × Out)
+  noted true s l = l
+  noted false s l = (clock s, now s) ∷ l
+
+  -- the changes of the n instants after the clock
+  unfoldable pub log : ℕ → State → List (ℕ × Out)
+  log zero s = []
+  log (suc n) s = noted (same (now s) (now (tick s))) (tick s) (log n (tick s))
+
+  -- how many of the next n instants a step gets through with room for m changes
+  unfoldable pub reach : ℕ → ℕ → State → ℕ
+  reach zero m s = 0
+  reach (suc n) m s = onward (same (now s) (now (tick s))) m (λ r. reach n r (tick s))
+
+  -- the instants that a call lets pass: none if it is refused, or an act
+  unfoldable pub elapsed : Call Act → State → ℕ
+  elapsed (step goal room) s = elim (acceptsGoal goal s) [ true ↦ reach (goal - clock s) room s | false ↦ 0 ]
+  elapsed (attempt a) s = 0
+
+  unfoldable pub run : List (Call Act) → State → Outcome State Out Act
+  run [] s = record { port = s; out = []; acts = [] }
+  run (step goal room ∷ cs) s =
+      let k : ℕ = elapsed (step goal room) s in
+      let r = run cs (ticks k s) in
+      record { port = r .port; out = log k s ++ r .out; acts = r .acts }
+  run (attempt a ∷ cs) s = cond (accepts a s) (withAct (clock s) a (run cs (perform a s))) (run cs s)
+
+  -- the acts alone, each at its instant, and the end: no steps, no rooms, no refusals
+  unfoldable pub replay : List (ℕ × Act) → ℕ → State → State
+  replay [] e s = ticks (e - clock s) s
+  replay (x ∷ l) e s = replay l e (perform (x .1) (ticks (x .0 - clock s) s))
+
+  unfoldable pub replayLog : List (ℕ × Act) → ℕ → State → List (ℕ × Out)
+  replayLog [] e s = log (e - clock s) s
+  replayLog (x ∷ l) e s = log (x .0 - clock s) s ++ replayLog l e (perform (x .1) (ticks (x .0 - clock s) s))
+
+  -- the acts that are tried, each at its instant; and those of them that are accepted, whatever steps lie between
+  unfoldable pub tried : List (Call Act) → State → List (ℕ × Act)
+  tried [] s = []
+  tried (step goal room ∷ cs) s = tried cs (ticks (elapsed (step goal room) s) s)
+  tried (attempt a ∷ cs) s = (clock s, a) ∷ tried cs (cond (accepts a s) (perform a s) s)
+
+  unfoldable pub accepting : List (ℕ × Act) → State → List (ℕ × Act)
+  accepting [] s = []
+  accepting (x ∷ l) s =
+      let q : State = ticks (x .0 - clock s) s in
+      cond (accepts (x .1) q) (x ∷ accepting l (perform (x .1) q)) (accepting l q)

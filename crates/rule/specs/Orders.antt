@@ -1,0 +1,71 @@
+-- Document 01, 'Numbers returned when a call declines': the order of each call of a port. 14, a malformed record, comes first in all but New; it is a
+-- matter of the record (crate `port`), so the orders here are what follows it.
+-- Assumes nothing.
+use mathlib.Core.Bool.{Bool, true, false, cond, not, _&&_}
+use mathlib.Core.List.{List, [], _∷_}
+use mathlib.Core.Option.{Option}
+use Prim.Native.Nat.{ℕ, _-_}
+use lib.Dec.{leb, ltb, eqb}
+use lib.ListN.{length}
+use Rattle.rule.specs.Limits.{largestList, largestInstant, largestStep, shortestFrame, longestFrame}
+use Rattle.rule.specs.declared.Refusal.{Refusal}
+use Rattle.rule.specs.declared.Refusal.the-variants.{ZeroInterval, ListLength, SwitchedOff, ChangeWaits, CycleTime, AboveLargest, BeforeClock, StepTooLong, HeadLength, Speed, FrameSending}
+use Rattle.rule.specs.Refusals.{firstOf, accepted}
+use Rattle.rule.specs.Entries.{Entry}
+use Rattle.rule.specs.Cycle.{cycleOffered}
+use Rattle.rule.specs.Port.{Port}
+use Rattle.rule.specs.Acts.{Act, on, off, standing, submit, transmit, Submission, isSome}
+
+abbrev pub any : {A : Type 0} → (A → Bool) → List A → Bool
+any f [] = false
+any f (x ∷ l) = cond (f x) true (any f l)
+
+unfoldable pub lengthOffered : ℕ → Bool
+lengthOffered n = leb 1 n && leb n largestList
+
+unfoldable pub hasZeroInterval : List Entry → Bool
+hasZeroInterval l = any (λ (x : Entry). eqb (x .interval) 0) l
+
+unfoldable pub speedOffered : ℕ → Bool
+speedOffered speed = any (eqb speed) (10 ∷ 100 ∷ 1_000 ∷ [])
+
+-- a head length is 0, an empty queue, or that of a frame
+unfoldable pub headOffered : ℕ → Bool
+headOffered n = cond (eqb n 0) true (leb shortestFrame n && leb n longestFrame)
+
+-- Submit: 6, 7, 8, 9, 5, 4
+unfoldable pub submitOrder : Submission → Port → List (Bool × Refusal)
+submitOrder x p =
+    (not (p .on), SwitchedOff) ∷ (isSome (p .waiting), ChangeWaits) ∷ (not (cycleOffered (x .numerator) (x .denominator)), CycleTime)
+    ∷ (ltb largestInstant (x .base), AboveLargest) ∷ (not (lengthOffered (length (x .list))), ListLength)
+    ∷ (hasZeroInterval (x .list), ZeroInterval) ∷ []
+
+-- Transmit: 13, 17, 12
+unfoldable pub transmitOrder : List ℕ → ℕ → Port → List (Bool × Refusal)
+transmitOrder heads speed p =
+    (not (speedOffered speed), Speed) ∷ (isSome (p .frame), FrameSending) ∷ (any (λ n. not (headOffered n)) heads, HeadLength) ∷ []
+
+-- On, off, standing: none
+abbrev pub actOrder : Act → Port → List (Bool × Refusal)
+actOrder on p = []
+actOrder off p = []
+actOrder (standing octet) p = []
+actOrder (submit x) p = submitOrder x p
+actOrder (transmit heads speed) p = transmitOrder heads speed p
+
+-- Step: 9, 10, 11. Look: 9, 10. New: 9
+unfoldable pub stepOrder : ℕ → Port → List (Bool × Refusal)
+stepOrder goal p =
+    (ltb largestInstant goal, AboveLargest) ∷ (ltb goal (p .clock), BeforeClock) ∷ (ltb largestStep (goal - p .clock), StepTooLong) ∷ []
+
+unfoldable pub lookOrder : ℕ → Port → List (Bool × Refusal)
+lookOrder t p = (ltb largestInstant t, AboveLargest) ∷ (ltb t (p .clock), BeforeClock) ∷ []
+
+unfoldable pub newOrder : ℕ → List (Bool × Refusal)
+newOrder t = (ltb largestInstant t, AboveLargest) ∷ []
+
+unfoldable pub accepts : Act → Port → Bool
+accepts a p = accepted (firstOf (actOrder a p))
+
+unfoldable pub acceptsGoal : ℕ → Port → Bool
+acceptsGoal goal p = accepted (firstOf (stepOrder goal p))

@@ -1,13 +1,15 @@
--- However a span is cut into steps, whatever the room of each and whatever is refused: the port and the changes joined end to end are
--- those of the acts alone, each at its instant (`run-replay`). Over any machine. Assumes nothing.
-use mathlib.Core.Path.{_≡_, refl, ap, sym, _∙_}
+-- However a span is cut into steps, whatever the room of each and whatever is refused: the state and the changes joined end to end are those of the acts
+-- alone, each at its instant (`run-port`, `run-out`), and which acts are accepted follows from those tried (`acts-accepted`). Over any machine. In order:
+-- ticks and logs add up; the acts' own run does not feel a stop on the way; a series of calls; the acts tried. What one step does with its room is in
+-- `Reach`.
+-- Assumes nothing.
+use mathlib.Core.Path.{_≡_, refl, ap, sym, _∙_, subst}
 use mathlib.Core.Bool.{Bool, true, false, cond}
 use mathlib.Core.List.{List, [], _∷_, _++_, append-assoc}
-use Prim.Native.Nat.{ℕ, zero, suc, _+_, _-_, _≤_, _<_}
-use native.Mathlib.Nat.{zero-add, suc-add, add-suc, add-zero, le-refl, sub-self}
+use Prim.Native.Nat.{ℕ, zero, suc, _+_, _-_, _≤_}
+use native.Mathlib.Nat.{zero-add, suc-add, sub-self}
 use native.Mathlib.Omega.{arith}
-use lib.ListN.{length}
-use Rattle.rule.specs.Machine.{Machine, Call, step, attempt, Outcome, ticks, noted, log, reach, elapsed, run, withAct, replay, replayLog, tried, accepting}
+use Rattle.rule.specs.Machine.{Machine, Call, step, attempt, Outcome, ticks, noted, log, elapsed, run, withAct, replay, replayLog, tried, accepting}
 
 -- what holds of both sides of a choice holds of the choice; each side has its own equation
 pub cases : {A : Type 0} (P : A → Type 0) (b : Bool) (x y : A) → (b ≡ true → P x) → (b ≡ false → P y) → P (cond b x y)
@@ -37,15 +39,15 @@ module _ (M : Machine) where
   log-add zero n s = rw zero-add
   log-add (suc m) n s = rw (suc-add, log-add m n (tick s)) (noted-append _ _ _ _)
 
-  -- the acts stand at t or shutLater, and so does the end
-  unfoldable pub From : ℕ → List (ℕ × Act) → ℕ → Type 0
-  From t [] e = t ≤ e
-  From t (x ∷ l) e = t ≤ x .0
+  -- the acts stand at t or later, one after the other, and so does the end
+  unfoldable pub Timely : ℕ → List (ℕ × Act) → ℕ → Type 0
+  Timely t [] e = t ≤ e
+  Timely t (x ∷ l) e = (t ≤ x .0) × Timely (x .0) l e
 
-  from-mono : {t u : ℕ} (l : List (ℕ × Act)) (e : ℕ) → t ≤ u → From u l e → From t l e
-  unfolding From
-  from-mono [] e h k = omega arith
-  from-mono (x ∷ l) e h k = omega arith
+  pub timely-mono : {t u : ℕ} (l : List (ℕ × Act)) (e : ℕ) → t ≤ u → Timely u l e → Timely t l e
+  unfolding Timely
+  timely-mono [] e h k = omega arith
+  timely-mono (x ∷ l) e h k = (omega arith, k .1)
 
   -- to go to t is to go on to t from a stop on the way
   to-split : (k t : ℕ) (s : State) → clock s + k ≤ t → t - clock s ≡ k + (t - clock (ticks M k s))
@@ -59,29 +61,30 @@ module _ (M : Machine) where
   log-to k t s h = ap (λ n. log M n s) (to-split k t s h) ∙ log-add k (t - clock (ticks M k s)) s
 
   -- the acts' own run does not feel a stop on the way
-  replay-ticks : (k : ℕ) (s : State) (l : List (ℕ × Act)) (e : ℕ) → From (clock s + k) l e
+  replay-ticks : (k : ℕ) (s : State) (l : List (ℕ × Act)) (e : ℕ) → Timely (clock s + k) l e
       → replay M l e s ≡ replay M l e (ticks M k s)
-  unfolding From replay
+  unfolding Timely replay
   replay-ticks k s [] e h = ticks-to k e s h
-  replay-ticks k s (x ∷ l) e h = ap (λ q. replay M l e (perform (x .1) q)) (ticks-to k (x .0) s h)
+  replay-ticks k s (x ∷ l) e h = ap (λ q. replay M l e (perform (x .1) q)) (ticks-to k (x .0) s (h .0))
 
-  replayed-ticks : (k : ℕ) (s : State) (l : List (ℕ × Act)) (e : ℕ) → From (clock s + k) l e
+  replayed-ticks : (k : ℕ) (s : State) (l : List (ℕ × Act)) (e : ℕ) → Timely (clock s + k) l e
       → replayLog M l e s ≡ log M k s ++ replayLog M l e (ticks M k s)
-  unfolding From replayLog
+  unfolding Timely replayLog
   replayed-ticks k s [] e h = log-to k e s h
-  replayed-ticks k s (x ∷ l) e h = rw (← ticks-to k (x .0) s h, log-to k (x .0) s h, append-assoc)
+  replayed-ticks k s (x ∷ l) e h = rw (← ticks-to k (x .0) s (h .0), log-to k (x .0) s (h .0), append-assoc)
 
   -- what a run's acts and end are
-  pub run-from : (cs : List (Call Act)) (s : State) → From (clock s) (run M cs s .acts) (clock (run M cs s .port))
-  unfolding From run
-  run-from [] s = omega arith
-  run-from (step g m ∷ cs) s =
+  pub run-timely : (cs : List (Call Act)) (s : State) → Timely (clock s) (run M cs s .acts) (clock (run M cs s .port))
+  unfolding Timely run
+  run-timely [] s = omega arith
+  run-timely (step g m ∷ cs) s =
       let k : ℕ = elapsed M (step g m) s in
-      from-mono (run M cs (ticks M k s) .acts) _ (omega (arith, clock-ticks k s)) (run-from cs (ticks M k s))
-  run-from (attempt a ∷ cs) s =
-      cases (λ (r : Outcome State Out Act). From (clock s) (r .acts) (clock (r .port))) (accepts a s) _ _
-      (λ _. omega arith)
-      (λ _. run-from cs s)
+      timely-mono (run M cs (ticks M k s) .acts) _ (omega (arith, clock-ticks k s)) (run-timely cs (ticks M k s))
+  run-timely (attempt a ∷ cs) s =
+      cases (λ (r : Outcome State Out Act). Timely (clock s) (r .acts) (clock (r .port))) (accepts a s) _ _
+      (λ _. let r = run M cs (perform a s) in
+      (omega arith, subst (λ t. Timely t (r .acts) (clock (r .port))) (clock-perform a s) (run-timely cs (perform a s))))
+      (λ _. run-timely cs s)
 
   stay : (s : State) → ticks M (clock s - clock s) s ≡ s
   unfolding ticks
@@ -98,7 +101,7 @@ module _ (M : Machine) where
   run-port (step g m ∷ cs) s =
       let k : ℕ = elapsed M (step g m) s in
       let q : State = ticks M k s in
-      run-port cs q ∙ sym (replay-ticks k s (run M cs q .acts) (clock (run M cs q .port)) (rw (clock-ticks k s) at (run-from cs q)))
+      run-port cs q ∙ sym (replay-ticks k s (run M cs q .acts) (clock (run M cs q .port)) (rw (clock-ticks k s) at (run-timely cs q)))
   run-port (attempt a ∷ cs) s =
       cases (λ (r : Outcome State Out Act). r .port ≡ replay M (r .acts) (clock (r .port)) s) (accepts a s) _ _
       (λ _. let r = run M cs (perform a s) in
@@ -112,7 +115,7 @@ module _ (M : Machine) where
       let k : ℕ = elapsed M (step g m) s in
       let q : State = ticks M k s in
       ap (λ l. log M k s ++ l) (run-out cs q)
-      ∙ sym (replayed-ticks k s (run M cs q .acts) (clock (run M cs q .port)) (rw (clock-ticks k s) at (run-from cs q)))
+      ∙ sym (replayed-ticks k s (run M cs q .acts) (clock (run M cs q .port)) (rw (clock-ticks k s) at (run-timely cs q)))
   run-out (attempt a ∷ cs) s =
       cases (λ (r : Outcome State Out Act). r .out ≡ replayLog M (r .acts) (clock (r .port)) s) (accepts a s) _ _
       (λ _. rw (still s, stay s) (run-out cs (perform a s)))
@@ -125,7 +128,7 @@ module _ (M : Machine) where
   one-outcome cs ds s p q =
       (run-port cs s ∙ (λ i. replay M (p i) (q i) s) ∙ sym (run-port ds s), run-out cs s ∙ (λ i. replayLog M (p i) (q i) s) ∙ sym (run-out ds s))
 
-  -- which acts are accepting does not hang on the steps either: it follows from the acts tried, each at its instant
+  -- which acts are accepted does not hang on the steps either: it follows from the acts tried, each at its instant
   After : ℕ → List (ℕ × Act) → Type 0
   After t [] = Unit {0}
   After t (x ∷ l) = t ≤ x .0
@@ -143,20 +146,20 @@ module _ (M : Machine) where
       after-mono (tried M cs (ticks M k s)) (omega (arith, clock-ticks k s)) (tried-after cs (ticks M k s))
   tried-after (attempt a ∷ cs) s = omega arith
 
-  taken-ticks : (k : ℕ) (s : State) (l : List (ℕ × Act)) → After (clock s + k) l → accepting M l s ≡ accepting M l (ticks M k s)
+  accepting-ticks : (k : ℕ) (s : State) (l : List (ℕ × Act)) → After (clock s + k) l → accepting M l s ≡ accepting M l (ticks M k s)
   unfolding After accepting
-  taken-ticks k s [] h = refl
-  taken-ticks k s (x ∷ l) h =
+  accepting-ticks k s [] h = refl
+  accepting-ticks k s (x ∷ l) h =
       ap (λ q. cond (accepts (x .1) q) (x ∷ accepting M l (perform (x .1) q)) (accepting M l q)) (ticks-to k (x .0) s h)
 
-  pub acts-taken : (cs : List (Call Act)) (s : State) → run M cs s .acts ≡ accepting M (tried M cs s) s
+  pub acts-accepted : (cs : List (Call Act)) (s : State) → run M cs s .acts ≡ accepting M (tried M cs s) s
   unfolding run tried accepting
-  acts-taken [] s = refl
-  acts-taken (step g m ∷ cs) s =
+  acts-accepted [] s = refl
+  acts-accepted (step g m ∷ cs) s =
       let k : ℕ = elapsed M (step g m) s in
       let q : State = ticks M k s in
-      acts-taken cs q ∙ sym (taken-ticks k s (tried M cs q) (rw (clock-ticks k s) at (tried-after cs q)))
-  acts-taken (attempt a ∷ cs) s = go (accepts a s) refl (λ q. acts-taken cs q)
+      acts-accepted cs q ∙ sym (accepting-ticks k s (tried M cs q) (rw (clock-ticks k s) at (tried-after cs q)))
+  acts-accepted (attempt a ∷ cs) s = go (accepts a s) refl (λ q. acts-accepted cs q)
     where
       -- at the clock itself no time passes
       here : (l : List (ℕ × Act)) {b : Bool} → accepts a s ≡ b

@@ -1,14 +1,16 @@
--- The laws of a configuration's cycles. The formula (`startNo`, `cycleNo`) is opened in the three laws of the first part and nowhere else: another
--- formula wants those three again. Assumes nothing.
-use mathlib.Core.Path.{_≡_, refl, ap, sym, _∙_}
+-- The laws of a configuration's cycles. The formula (`startNo`, `cycleNo`) is opened in the first part and nowhere else: another formula wants those
+-- laws again. Then what follows from them: the running cycle, the last old cycle (8.6.9.1.1), the change instant (8.6.9.3.1). The forms that a program
+-- computes are in `ClosedForms`.
+-- Assumes nothing.
+use mathlib.Core.Path.{_≡_, refl}
 use mathlib.Core.Logic.{_↔_}
 use mathlib.Core.Bool.{Bool, true, false, cond}
-use Prim.Native.Nat.{ℕ, zero, suc, _+_, _-_, _*_, _/_, _≤_, _<_, pred, max}
+use Prim.Native.Nat.{ℕ, zero, suc, _+_, _-_, _≤_, _<_}
 use native.Mathlib.Nat.{le-div-iff-mul-le, mul-lt-mul-of-pos-right, zero-mul, lt-of-not-le, not-le-of-lt}
 use native.Mathlib.Omega.{arith}
 use lib.Dec.{leb}
 use borrow.Author.Tests.{leb-true, leb-false, le-leb}
-use Rattle.rule.specs.Cycle.{Config, Valid, startNo, cycleNo, firstNo, lastNo, plainStart, bentStart, changeInstant, startingAt}
+use Rattle.rule.specs.Cycle.{Config, Valid, startNo, cycleNo, firstNo, lastNo, plainStart, changeInstant, startingAt}
 
 module _ (f : Config) (pos : Valid f) where
   -- the formula
@@ -94,7 +96,7 @@ change-at f base a v = record {
   least = λ j h. first-no (startingAt base f) v a j .1 h;
 }
 
--- a base time that is not onward is the change instant itself
+-- a base time that is not past is the change instant itself
 pub change-base : (f : Config) (base a : ℕ) → Valid (startingAt base f) → a ≤ base → changeInstant f base a ≡ base
 unfolding changeInstant firstNo
 change-base f base a v h = rw (le-leb a base h) (start-zero (startingAt base f) v)

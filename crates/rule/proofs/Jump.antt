@@ -1,23 +1,24 @@
--- n ticks at once: the form that a program computes. `ticks-jump`: it is what the ticks come to. Assumes nothing.
+-- n ticks at once, the form that a program computes, is what the ticks come to (`ticks-jump`). In order: nothing overdue; what falls due on the way; the
+-- frame and the counters; the jump.
+-- Assumes nothing.
 use mathlib.Core.Path.{_≡_, refl, ap, ap₂, sym, _∙_}
 use mathlib.Core.Bool.{Bool, true, false, cond, not, _&&_}
-use mathlib.Core.List.{List, [], _∷_}
+use mathlib.Core.List.{List}
 use mathlib.Core.Option.{Option, none, some}
 use Prim.Native.Nat.{ℕ, zero, suc, _+_, _-_, _≤_, _<_, min}
-use native.Mathlib.Nat.{add-zero, add-suc, suc-add}
+use native.Mathlib.Nat.{add-zero}
 use native.Mathlib.Omega.{arith}
 use lib.Dec.{leb}
 use lib.ListN.{set, getD}
 use borrow.Author.Tests.{leb-true, leb-false, le-leb, lt-leb}
 use Rattle.rule.specs.Gates.{isOpen}
 use Rattle.rule.specs.Cycle.{Config}
-use Rattle.rule.specs.Port.{Port, Waiting, Frame, octetUnder, shown, shownNow, operatingAt, waitingAt, frameAt, overran, marked, counted, raise, tick}
+use Rattle.rule.specs.Port.{Port, Waiting, Frame, shown, shownNow, operatingAt, waitingAt, frameAt, overran, marked, counted, raise, tick}
 use Rattle.rule.specs.Choice.{staysOpen}
 use Rattle.rule.specs.Machine.{ticks}
 use Rattle.rule.specs.PortMachine.{machine}
 use Rattle.rule.specs.History.{meets}
-use Rattle.rule.proofs.Shown.{shown-tick, shown-ticks}
-use Rattle.rule.proofs.Cut.{ticks-add}
+use Rattle.rule.proofs.Shown.{shown-tick}
 
 unfoldable pub jump : ℕ → Port → Port
 jump n p = let b : Bool = meets (shown p) (p .clock) n (p .frame) in record {
@@ -31,7 +32,7 @@ jump n p = let b : Bool = meets (shown p) (p .clock) n (p .frame) in record {
   overruns = counted b (p .frame) (p .overruns);
 }
 
--- nothing that was due is left: the waiting change and the frame's end lie onward the clock
+-- nothing that was due is left: the waiting change and the frame's end lie past the clock
 abbrev pub WaitPast : ℕ → Option Waiting → Type 0
 WaitPast c none = Unit {0}
 WaitPast c (some w) = c < w .config .start
@@ -40,15 +41,23 @@ abbrev pub FramePast : ℕ → Option Frame → Type 0
 FramePast c none = Unit {0}
 FramePast c (some f) = c < f .end
 
-oper-now : (c : ℕ) (o : Option Config) (w : Option Waiting) → WaitPast c w → operatingAt c o w ≡ o
-oper-now c o none h = refl
-oper-now c o (some w) h = rw (lt-leb (w .config .start) c h)
+pub wait-sooner : (c t : ℕ) (w : Option Waiting) → c ≤ t → WaitPast t w → WaitPast c w
+wait-sooner c t none h k = tt
+wait-sooner c t (some w) h k = omega arith
 
-wait-now : (c : ℕ) (w : Option Waiting) → WaitPast c w → waitingAt c w ≡ w
-wait-now c none h = refl
-wait-now c (some w) h = rw (lt-leb (w .config .start) c h)
+pub frame-sooner : (c t : ℕ) (f : Option Frame) → c ≤ t → FramePast t f → FramePast c f
+frame-sooner c t none h k = tt
+frame-sooner c t (some f) h k = omega arith
 
-frame-now : (c : ℕ) (f : Option Frame) → FramePast c f → frameAt c f ≡ f
+pub operating-now : (c : ℕ) (o : Option Config) (w : Option Waiting) → WaitPast c w → operatingAt c o w ≡ o
+operating-now c o none h = refl
+operating-now c o (some w) h = rw (lt-leb (w .config .start) c h)
+
+pub waiting-now : (c : ℕ) (w : Option Waiting) → WaitPast c w → waitingAt c w ≡ w
+waiting-now c none h = refl
+waiting-now c (some w) h = rw (lt-leb (w .config .start) c h)
+
+pub frame-now : (c : ℕ) (f : Option Frame) → FramePast c f → frameAt c f ≡ f
 frame-now c none h = refl
 frame-now c (some f) h = rw (lt-leb (f .end) c h)
 
@@ -56,10 +65,10 @@ pub none-of : (b : Bool) → b && false ≡ false
 none-of true = refl
 none-of false = refl
 
-pub met-none : (g : ℕ → ℕ) (c : ℕ) (f : Option Frame) → meets g c 0 f ≡ false
+pub meets-none : (g : ℕ → ℕ) (c : ℕ) (f : Option Frame) → meets g c 0 f ≡ false
 unfolding meets staysOpen
-met-none g c none = refl
-met-none g c (some f) = let e : min 0 (f .end - suc c) ≡ 0 = omega arith in rw e (none-of (not (f .counted)))
+meets-none g c none = refl
+meets-none g c (some f) = let e : min 0 (f .end - suc c) ≡ 0 = omega arith in rw e (none-of (not (f .counted)))
 
 pub marked-no : (f : Option Frame) → marked false f ≡ f
 marked-no none = refl
@@ -71,17 +80,17 @@ counted-no (some f) l = refl
 
 -- due at u, then at t
 
-oper-then : (u t : ℕ) (o : Option Config) (w : Option Waiting) → u ≤ t → operatingAt t (operatingAt u o w) (waitingAt u w) ≡ operatingAt t o w
-oper-then u t o none h = refl
-oper-then u t o (some w) h = go (leb (w .config .start) u) refl
+operating-then : (u t : ℕ) (o : Option Config) (w : Option Waiting) → u ≤ t → operatingAt t (operatingAt u o w) (waitingAt u w) ≡ operatingAt t o w
+operating-then u t o none h = refl
+operating-then u t o (some w) h = go (leb (w .config .start) u) refl
   where
     go : (b : Bool) → leb (w .config .start) u ≡ b → operatingAt t (cond b (some (w .config)) o) (cond b none (some w)) ≡ operatingAt t o (some w)
     go true e = rw (le-leb (w .config .start) t (omega (arith, leb-true)))
     go false e = refl
 
-wait-then : (u t : ℕ) (w : Option Waiting) → u ≤ t → waitingAt t (waitingAt u w) ≡ waitingAt t w
-wait-then u t none h = refl
-wait-then u t (some w) h = go (leb (w .config .start) u) refl
+waiting-then : (u t : ℕ) (w : Option Waiting) → u ≤ t → waitingAt t (waitingAt u w) ≡ waitingAt t w
+waiting-then u t none h = refl
+waiting-then u t (some w) h = go (leb (w .config .start) u) refl
   where
     go : (b : Bool) → leb (w .config .start) u ≡ b → waitingAt t (cond b none (some w)) ≡ waitingAt t (some w)
     go true e = rw (le-leb (w .config .start) t (omega (arith, leb-true)))
@@ -94,27 +103,27 @@ unfolding staysOpen
 stays-cong g g′ k t zero h = refl
 stays-cong g g′ k t (suc n) h = ap₂ (λ o b. isOpen o k && b) (h t (omega arith)) (stays-cong g g′ k (suc t) n (λ u l. h u (omega arith)))
 
-met-cong : (g g′ : ℕ → ℕ) (c n : ℕ) (f : Option Frame) → ((u : ℕ) → c < u → g u ≡ g′ u) → meets g c n f ≡ meets g′ c n f
+meets-cong : (g g′ : ℕ → ℕ) (c n : ℕ) (f : Option Frame) → ((u : ℕ) → c < u → g u ≡ g′ u) → meets g c n f ≡ meets g′ c n f
 unfolding meets
-met-cong g g′ c n none h = refl
-met-cong g g′ c n (some f) h = ap (λ b. not (f .counted) && not b) (stays-cong g g′ (f .class) (suc c) (min n (f .end - suc c)) h)
+meets-cong g g′ c n none h = refl
+meets-cong g g′ c n (some f) h = ap (λ b. not (f .counted) && not b) (stays-cong g g′ (f .class) (suc c) (min n (f .end - suc c)) h)
 
 module _ (g : ℕ → ℕ) (c n : ℕ) (f : Frame) where
-  pub met-counted : f .counted ≡ true → meets g c n (some f) ≡ false
+  pub meets-counted : f .counted ≡ true → meets g c n (some f) ≡ false
   unfolding meets
-  met-counted e = rw e
+  meets-counted e = rw e
 
-  pub met-over : f .end ≤ suc c → meets g c n (some f) ≡ false
+  pub meets-over : f .end ≤ suc c → meets g c n (some f) ≡ false
   unfolding meets staysOpen
-  met-over h = let e : min n (f .end - suc c) ≡ 0 = omega arith in rw e (none-of (not (f .counted)))
+  meets-over h = let e : min n (f .end - suc c) ≡ 0 = omega arith in rw e (none-of (not (f .counted)))
 
-  pub met-closed : f .counted ≡ false → suc c < f .end → isOpen (g (suc c)) (f .class) ≡ false → meets g c (suc n) (some f) ≡ true
+  pub meets-closed : f .counted ≡ false → suc c < f .end → isOpen (g (suc c)) (f .class) ≡ false → meets g c (suc n) (some f) ≡ true
   unfolding meets staysOpen
-  met-closed e h o = let m : min (suc n) (f .end - suc c) ≡ suc (min n (f .end - suc (suc c))) = omega arith in rw (m, e, o)
+  meets-closed e h o = let m : min (suc n) (f .end - suc c) ≡ suc (min n (f .end - suc (suc c))) = omega arith in rw (m, e, o)
 
-  pub met-open : suc c < f .end → isOpen (g (suc c)) (f .class) ≡ true → meets g c (suc n) (some f) ≡ meets g (suc c) n (some f)
+  pub meets-open : suc c < f .end → isOpen (g (suc c)) (f .class) ≡ true → meets g c (suc n) (some f) ≡ meets g (suc c) n (some f)
   unfolding meets staysOpen
-  met-open h o = let m : min (suc n) (f .end - suc c) ≡ suc (min n (f .end - suc (suc c))) = omega arith in rw (m, o)
+  meets-open h o = let m : min (suc n) (f .end - suc c) ≡ suc (min n (f .end - suc (suc c))) = omega arith in rw (m, o)
 
 gone : (b : Bool) (f : Frame) (t : ℕ) → f .end ≤ t → frameAt t (marked b (some f)) ≡ none
 gone true f t h = rw (le-leb (f .end) t h)
@@ -144,17 +153,17 @@ module _ (g : ℕ → ℕ) (c n t : ℕ) (later : suc c ≤ t) where
   unfolding first-frame first-count
   same-some f l true e k p o q =
       let z : f .end ≤ suc c = omega (arith, leb-true) in
-      by-first none l (rw e) (rw e) (sym (gone (meets g c (suc n) (some f)) f t (omega arith))) (rw (met-over g c (suc n) f z))
+      by-first none l (rw e) (rw e) (sym (gone (meets g c (suc n) (some f)) f t (omega arith))) (rw (meets-over g c (suc n) f z))
   same-some f l false e true p o q =
-      by-first (some f) l (rw (e, p)) (rw (e, p)) (rw (met-counted g (suc c) n f p, met-counted g c (suc n) f p)) (rw (met-counted g (suc c) n f p, met-counted g c (suc n) f p))
+      by-first (some f) l (rw (e, p)) (rw (e, p)) (rw (meets-counted g (suc c) n f p, meets-counted g c (suc n) f p)) (rw (meets-counted g (suc c) n f p, meets-counted g c (suc n) f p))
   same-some f l false e false p false q =
       let z : suc c < f .end = omega (arith, leb-false) in
       let f′ : Frame = record { class = f .class; start = f .start; end = f .end; counted = true } in
       by-first (some f′) (set l (f .class) (raise (getD l (f .class) 0))) (rw (e, p, q)) (rw (e, p, q))
-      (rw (met-closed g c n f p z q, met-counted g (suc c) n f′ refl)) (rw (met-closed g c n f p z q, met-counted g (suc c) n f′ refl))
+      (rw (meets-closed g c n f p z q, meets-counted g (suc c) n f′ refl)) (rw (meets-closed g c n f p z q, meets-counted g (suc c) n f′ refl))
   same-some f l false e false p true q =
       let z : suc c < f .end = omega (arith, leb-false) in
-      by-first (some f) l (rw (e, p, q)) (rw (e, p, q)) (rw (met-open g c n f z q)) (rw (met-open g c n f z q))
+      by-first (some f) l (rw (e, p, q)) (rw (e, p, q)) (rw (meets-open g c n f z q)) (rw (meets-open g c n f z q))
 
   same : (r : Option Frame) (l : List ℕ) → Same r l
   unfolding first-frame first-count
@@ -170,7 +179,7 @@ tick-jump n p =
     let g : ℕ → ℕ = shown p in
     let e₀ : shown (tick p) (suc c) ≡ g (suc c) = shown-tick p (suc c) (omega arith) in
     let m : meets (shown (tick p)) (suc c) n (tick p .frame) ≡ meets g (suc c) n (tick p .frame) =
-    met-cong (shown (tick p)) g (suc c) n (tick p .frame) (λ u l. shown-tick p u (omega arith)) in
+    meets-cong (shown (tick p)) g (suc c) n (tick p .frame) (λ u l. shown-tick p u (omega arith)) in
     let s = same g c n t (omega arith) (p .frame) (p .overruns) in
     let d : Option Frame = frameAt (suc c) (p .frame) in
     let frame-is : frameAt (suc c + n) (marked (meets (shown (tick p)) (suc c) n (tick p .frame)) (tick p .frame))
@@ -184,9 +193,9 @@ tick-jump n p =
     ∙ ap (λ o. counted (meets g (suc c) n (marked (overran o d) d)) (marked (overran o d) d) (counted (overran o d) d (p .overruns))) e₀
     ∙ s .ct in
     let oper-is : operatingAt (suc c + n) (tick p .operating) (tick p .waiting) ≡ operatingAt t (p .operating) (p .waiting) =
-    ap (λ u. operatingAt u (tick p .operating) (tick p .waiting)) e ∙ oper-then (suc c) t (p .operating) (p .waiting) (omega arith) in
+    ap (λ u. operatingAt u (tick p .operating) (tick p .waiting)) e ∙ operating-then (suc c) t (p .operating) (p .waiting) (omega arith) in
     let wait-is : waitingAt (suc c + n) (tick p .waiting) ≡ waitingAt t (p .waiting) =
-    ap (λ u. waitingAt u (tick p .waiting)) e ∙ wait-then (suc c) t (p .waiting) (omega arith) in
+    ap (λ u. waitingAt u (tick p .waiting)) e ∙ waiting-then (suc c) t (p .waiting) (omega arith) in
     λ i. record {
       clock = e i;
       on = p .on;
@@ -220,13 +229,13 @@ unfolding jump
 jump-none p hw hf =
     let c : ℕ = p .clock in
     let z : c + 0 ≡ c = add-zero c in
-    let b : meets (shown p) c 0 (p .frame) ≡ false = met-none (shown p) c (p .frame) in
+    let b : meets (shown p) c 0 (p .frame) ≡ false = meets-none (shown p) c (p .frame) in
     λ i. record {
       clock = z i;
       on = p .on;
       standing = p .standing;
-      operating = (ap (λ u. operatingAt u (p .operating) (p .waiting)) z ∙ oper-now c (p .operating) (p .waiting) hw) i;
-      waiting = (ap (λ u. waitingAt u (p .waiting)) z ∙ wait-now c (p .waiting) hw) i;
+      operating = (ap (λ u. operatingAt u (p .operating) (p .waiting)) z ∙ operating-now c (p .operating) (p .waiting) hw) i;
+      waiting = (ap (λ u. waitingAt u (p .waiting)) z ∙ waiting-now c (p .waiting) hw) i;
       frame = ((λ j. frameAt (z j) (marked (b j) (p .frame))) ∙ ap (frameAt c) (marked-no (p .frame)) ∙ frame-now c (p .frame) hf) i;
       errors = p .errors;
       overruns = (ap (λ q. counted q (p .frame) (p .overruns)) b ∙ counted-no (p .frame) (p .overruns)) i;
@@ -237,21 +246,3 @@ unfolding ticks tick
 ticks-jump zero p hw hf = sym (jump-none p hw hf)
 ticks-jump (suc n) p hw hf =
     ticks-jump n (tick p) (wait-past (suc (p .clock)) (p .waiting)) (frame-past (suc (p .clock)) _ (p .frame)) ∙ tick-jump n p
-
--- to t1 and then to t2 is to t2: the port, and what it will show
-
-pasts : (n : ℕ) (p : Port) → WaitPast (p .clock) (p .waiting) → FramePast (p .clock) (p .frame)
-    → WaitPast (ticks machine n p .clock) (ticks machine n p .waiting) × FramePast (ticks machine n p .clock) (ticks machine n p .frame)
-unfolding ticks tick
-pasts zero p hw hf = (hw, hf)
-pasts (suc n) p hw hf = pasts n (tick p) (wait-past (suc (p .clock)) (p .waiting)) (frame-past (suc (p .clock)) _ (p .frame))
-
-pub jump-jump : (m n : ℕ) (p : Port) → WaitPast (p .clock) (p .waiting) → FramePast (p .clock) (p .frame) → jump n (jump m p) ≡ jump (m + n) p
-jump-jump m n p hw hf =
-    let q : Port = ticks machine m p in
-    let h = pasts m p hw hf in
-    ap (jump n) (sym (ticks-jump m p hw hf)) ∙ sym (ticks-jump n q (h .0) (h .1)) ∙ sym (ticks-add machine m n p) ∙ ticks-jump (m + n) p hw hf
-
-pub shown-jump : (n : ℕ) (p : Port) (t : ℕ) → WaitPast (p .clock) (p .waiting) → FramePast (p .clock) (p .frame) → p .clock + n ≤ t
-    → shown (jump n p) t ≡ shown p t
-shown-jump n p t hw hf h = ap (λ q. shown q t) (sym (ticks-jump n p hw hf)) ∙ shown-ticks n p t h

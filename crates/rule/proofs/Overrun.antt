@@ -1,93 +1,84 @@
--- The overrun counters count the frames that meets a closed gate, by the rule over the accepted acts (`run-overruns`). Assumes nothing.
-use mathlib.Core.Path.{_≡_, refl, ap, ap₂, sym, _∙_, subst}
-use mathlib.Core.Bool.{Bool, true, false, cond, not, _&&_, _||_, true≢false}
-use mathlib.Core.List.{List, [], _∷_, _++_}
+-- The overrun counters count the frames that met a closed gate, by the rule over the accepted acts, modulo 2^64 (`run-overruns`). In order: a frame and
+-- the instants after; one counter; one instant more; an act; what every port keeps; any series of calls.
+-- Assumes nothing.
+use mathlib.Core.Path.{_≡_, refl, ap, sym, _∙_, subst}
+use mathlib.Core.Bool.{Bool, true, false, cond, not, _&&_, _||_}
+use mathlib.Core.List.{List, [], _∷_}
 use mathlib.Core.Option.{Option, none, some}
-use Prim.Native.Nat.{ℕ, zero, suc, _+_, _-_, _*_, _/_, _^_, _%_, _≤_, _<_}
-use native.Mathlib.Nat.{mod-add-mod, sub-self, add-zero, zero-add, le-div-iff-mul-le}
+use Prim.Native.Nat.{ℕ, zero, suc, _+_, _-_, _^_, _%_, _≤_, _<_}
+use native.Mathlib.Nat.{mod-add-mod, sub-self, add-zero, zero-add}
 use native.Mathlib.Numerals.{add-one}
 use native.Mathlib.Omega.{arith}
-use lib.Dec.{leb, ltb, eqb}
-use lib.ListN.{length, getD, set, length-set, replicate, getD-replicate}
+use lib.Dec.{leb, eqb}
+use lib.ListN.{length, getD, length-set, getD-replicate}
 use lib.Seq.{getD-set-same, getD-set-other}
-use borrow.Author.Tests.{leb-true, leb-false, le-leb, lt-leb, lt-ltb, le-ltb, eqb-true, eqb-false, not-false}
+use borrow.Author.Tests.{leb-true, leb-false, lt-ltb, le-ltb, eqb-true, eqb-false}
 use Rattle.rule.specs.Gates.{isOpen}
-use Rattle.rule.specs.Cycle.{Config}
-use Rattle.rule.specs.Port.{Port, Waiting, Frame, octetUnder, shown, shownNow, operatingAt, waitingAt, frameAt, overran, marked, counted, raise, tick, newPort}
-use Rattle.rule.specs.Choice.{staysOpen, duration, lookAhead, qualifies, highest, frameFor, chosen}
-use Rattle.rule.specs.Acts.{Act, on, off, standing, submit, transmit, submitted, perform, isSome}
-use Rattle.rule.specs.Orders.{speedOffered, accepts}
+use Rattle.rule.specs.Port.{Port, Frame, octetUnder, shown, shownNow, frameAt, overran, marked, counted, raise, tick, newPort}
+use Rattle.rule.specs.Choice.{duration, lookAhead, qualifies, highest, frameFor, chosen}
+use Rattle.rule.specs.Acts.{Act, on, off, standing, submit, transmit, submitted, perform}
+use Rattle.rule.specs.Orders.{accepts}
 use Rattle.rule.specs.Machine.{ticks, Call, step, attempt, Outcome, run, elapsed}
-use Rattle.rule.specs.PortMachine.{clock-perform, machine}
-use Rattle.rule.specs.History.{meets, History, standingOf, submissionsOf, operatingOf, ruleOctet, ruleAhead, frameBegun, shut, shutLater, bit, overrunOf, ruleOverruns}
-use Rattle.rule.proofs.Cut.{cases, clock-ticks}
+use Rattle.rule.specs.PortMachine.{machine}
+use Rattle.rule.specs.History.{History, ruleOctet, ruleAhead, frameBegun, shut, shutLater, bit, overrunOf, ruleOverruns}
+use Rattle.rule.proofs.Cut.{cases, clock-ticks, Timely, timely-mono, run-timely}
 use Rattle.rule.proofs.Orders.{transmit-passed}
 use Rattle.rule.proofs.Choice.{speed-range, duration-some}
-use Rattle.rule.proofs.Jump.{met-none, met-counted, met-over, met-closed, met-open}
+use Rattle.rule.proofs.Jump.{meets-none, meets-over, meets-closed, meets-open}
 use Rattle.rule.proofs.Track.{Tracks, tracks-tick, tracks-ticks, tracks-shown, tracks-perform, tracks-new}
 
--- the acts stand at t or shutLater, one after the other, and so does the end
-Timely : ℕ → List (ℕ × Act) → ℕ → Type 0
-Timely t [] e = t ≤ e
-Timely t (x ∷ l) e = (t ≤ x .0) × Timely (x .0) l e
-
-timely-mono : {t u : ℕ} (l : List (ℕ × Act)) (e : ℕ) → t ≤ u → Timely u l e → Timely t l e
-unfolding Timely
-timely-mono [] e h k = omega arith
-timely-mono (x ∷ l) e h k = (omega arith, k .1)
-
--- a frame and the shutLater instants
+-- a frame and the later instants
 
 module _ (s₀ : ℕ) (f : Frame) where
-  later-over : (h : History) (c u : ℕ) (l : List (ℕ × Act)) (e : ℕ) → f .end ≤ suc c → f .end ≤ u → Timely u l e → shutLater s₀ h f c l e ≡ false
+  later-over : (h : History) (c u : ℕ) (l : List (ℕ × Act)) (e : ℕ) → f .end ≤ suc c → f .end ≤ u → Timely machine u l e → shutLater s₀ h f c l e ≡ false
   unfolding shutLater Timely
-  later-over h c u [] e p q t = met-over (ruleOctet s₀ h) c (e - c) f p
+  later-over h c u [] e p q t = meets-over (ruleOctet s₀ h) c (e - c) f p
   later-over h c u (x ∷ l) e p q t =
-      rw (met-over (ruleOctet s₀ h) c (x .0 - c) f p, le-ltb (x .0) (f .end) (omega arith))
+      rw (meets-over (ruleOctet s₀ h) c (x .0 - c) f p, le-ltb (x .0) (f .end) (omega arith))
       (later-over (x ∷ h) (x .0) (x .0) l e (omega arith) (omega arith) (t .1))
 
   later-closed : (h : History) (c : ℕ) (l : List (ℕ × Act)) (e : ℕ) → f .counted ≡ false → suc c < f .end
-      → isOpen (ruleOctet s₀ h (suc c)) (f .class) ≡ false → Timely (suc c) l e → shutLater s₀ h f c l e ≡ true
+      → isOpen (ruleOctet s₀ h (suc c)) (f .class) ≡ false → Timely machine (suc c) l e → shutLater s₀ h f c l e ≡ true
   unfolding shutLater Timely
   later-closed h c [] e p q o t =
-      let z : e - c ≡ suc (e - suc c) = omega arith in rw (z, met-closed (ruleOctet s₀ h) c (e - suc c) f p q o)
+      let z : e - c ≡ suc (e - suc c) = omega arith in rw (z, meets-closed (ruleOctet s₀ h) c (e - suc c) f p q o)
   later-closed h c (x ∷ l) e p q o t =
-      let z : x .0 - c ≡ suc (x .0 - suc c) = omega arith in rw (z, met-closed (ruleOctet s₀ h) c (x .0 - suc c) f p q o)
+      let z : x .0 - c ≡ suc (x .0 - suc c) = omega arith in rw (z, meets-closed (ruleOctet s₀ h) c (x .0 - suc c) f p q o)
 
   later-open : (h : History) (c : ℕ) (l : List (ℕ × Act)) (e : ℕ) → suc c < f .end
-      → isOpen (ruleOctet s₀ h (suc c)) (f .class) ≡ true → Timely (suc c) l e → shutLater s₀ h f c l e ≡ shutLater s₀ h f (suc c) l e
+      → isOpen (ruleOctet s₀ h (suc c)) (f .class) ≡ true → Timely machine (suc c) l e → shutLater s₀ h f c l e ≡ shutLater s₀ h f (suc c) l e
   unfolding shutLater Timely
   later-open h c [] e q o t =
-      let z : e - c ≡ suc (e - suc c) = omega arith in rw (z, met-open (ruleOctet s₀ h) c (e - suc c) f q o)
+      let z : e - c ≡ suc (e - suc c) = omega arith in rw (z, meets-open (ruleOctet s₀ h) c (e - suc c) f q o)
   later-open h c (x ∷ l) e q o t =
-      let z : x .0 - c ≡ suc (x .0 - suc c) = omega arith in rw (z, met-open (ruleOctet s₀ h) c (x .0 - suc c) f q o)
+      let z : x .0 - c ≡ suc (x .0 - suc c) = omega arith in rw (z, meets-open (ruleOctet s₀ h) c (x .0 - suc c) f q o)
 
   -- an act at the clock itself
   later-act : (h : History) (c : ℕ) (a : Act) (l : List (ℕ × Act)) (e : ℕ) → c < f .end
       → shutLater s₀ h f c ((c, a) ∷ l) e ≡ shut s₀ ((c, a) ∷ h) f c || shutLater s₀ ((c, a) ∷ h) f c l e
   unfolding shutLater
-  later-act h c a l e q = rw (sub-self, met-none (ruleOctet s₀ h) c (some f), lt-ltb c (f .end) q)
+  later-act h c a l e q = rw (sub-self, meets-none (ruleOctet s₀ h) c (some f), lt-ltb c (f .end) q)
 
 -- one count: the counter of class k is a number N modulo 2^64
 
--- q: the frame is of the class; n: it was counted before; m: its gate is open; y: it meets a closed gate shutLater
-settle-bits : (q n m y : Bool)
+-- q: the frame is of the class; n: it was counted before; m: its gate is open; y: it meets a closed gate later
+tested-bits : (q n m y : Bool)
     → bit (q && (not n && not m)) + bit (q && (not (not n && not m) && (not n && y))) ≡ bit (q && (not n && (not m || y)))
-settle-bits false n m y = refl
-settle-bits true true m y = refl
-settle-bits true false true y = omega arith
-settle-bits true false false y = refl
+tested-bits false n m y = refl
+tested-bits true true m y = refl
+tested-bits true false true y = omega arith
+tested-bits true false false y = refl
 
 raise-mod : (n : ℕ) → raise (n % 2 ^ 64) ≡ suc n % 2 ^ 64
 unfolding raise
 raise-mod n = mod-add-mod n (2 ^ 64) 1 ∙ ap (λ k. k % 2 ^ 64) (add-one n)
 
--- the frame is of one of the eight classes, and its end lies onward c
+-- the frame is of one of the eight classes, and its end lies past c
 abbrev FrameGood : ℕ → Option Frame → Type 0
 FrameGood c none = Unit {0}
 FrameGood c (some f) = (c < f .end) × (f .class < 8)
 
--- what settling with the octet o adds to class k's counter
+-- what the overrun test with the octet o adds to class k's counter
 abbrev hit : ℕ → ℕ → Option Frame → ℕ
 hit k o none = 0
 hit k o (some f) = bit (eqb (f .class) k && (not (f .counted) && not (isOpen o (f .class))))
@@ -111,31 +102,31 @@ length-counted true (some f) l = length-set l (f .class) (raise (getD l (f .clas
 length-counted false (some f) l = refl
 
 -- what the frame that is being sent will add after c
-pend : ℕ → ℕ → History → ℕ → List (ℕ × Act) → ℕ → Option Frame → ℕ
-pend s₀ k h c l e none = 0
-pend s₀ k h c l e (some f) = bit (eqb (f .class) k && (not (f .counted) && shutLater s₀ h f c l e))
+pending : ℕ → ℕ → History → ℕ → List (ℕ × Act) → ℕ → Option Frame → ℕ
+pending s₀ k h c l e none = 0
+pending s₀ k h c l e (some f) = bit (eqb (f .class) k && (not (f .counted) && shutLater s₀ h f c l e))
 
 none-and : (b : Bool) → b && false ≡ false
 none-and true = refl
 none-and false = refl
 
-pend-marked : (s₀ k : ℕ) (h : History) (c : ℕ) (l : List (ℕ × Act)) (e : ℕ) (f : Frame) (b : Bool)
-    → pend s₀ k h c l e (marked b (some f)) ≡ bit (eqb (f .class) k && (not b && (not (f .counted) && shutLater s₀ h f c l e)))
-unfolding pend
-pend-marked s₀ k h c l e f true = refl
-pend-marked s₀ k h c l e f false = refl
+pending-marked : (s₀ k : ℕ) (h : History) (c : ℕ) (l : List (ℕ × Act)) (e : ℕ) (f : Frame) (b : Bool)
+    → pending s₀ k h c l e (marked b (some f)) ≡ bit (eqb (f .class) k && (not b && (not (f .counted) && shutLater s₀ h f c l e)))
+unfolding pending
+pending-marked s₀ k h c l e f true = refl
+pending-marked s₀ k h c l e f false = refl
 
--- settled with the octet o, then the instants after c: what the two add
-settle-pend : (s₀ k : ℕ) (h : History) (c : ℕ) (l : List (ℕ × Act)) (e o : ℕ) (f : Frame)
-    → hit k o (some f) + pend s₀ k h c l e (marked (overran o (some f)) (some f))
+-- newest-operates with the octet o, then the instants after c: what the two add
+tested-pending : (s₀ k : ℕ) (h : History) (c : ℕ) (l : List (ℕ × Act)) (e o : ℕ) (f : Frame)
+    → hit k o (some f) + pending s₀ k h c l e (marked (overran o (some f)) (some f))
     ≡ bit (eqb (f .class) k && (not (f .counted) && (not (isOpen o (f .class)) || shutLater s₀ h f c l e)))
-settle-pend s₀ k h c l e o f =
-    ap (λ n. hit k o (some f) + n) (pend-marked s₀ k h c l e f (overran o (some f)))
-    ∙ settle-bits (eqb (f .class) k) (f .counted) (isOpen o (f .class)) (shutLater s₀ h f c l e)
+tested-pending s₀ k h c l e o f =
+    ap (λ n. hit k o (some f) + n) (pending-marked s₀ k h c l e f (overran o (some f)))
+    ∙ tested-bits (eqb (f .class) k) (f .counted) (isOpen o (f .class)) (shutLater s₀ h f c l e)
 
 -- one instant more
 
-later-tick : (s₀ : ℕ) (h : History) (c : ℕ) (l : List (ℕ × Act)) (e : ℕ) (f : Frame) → suc c < f .end → Timely (suc c) l e
+later-tick : (s₀ : ℕ) (h : History) (c : ℕ) (l : List (ℕ × Act)) (e : ℕ) (f : Frame) → suc c < f .end → Timely machine (suc c) l e
     → not (f .counted) && (not (isOpen (ruleOctet s₀ h (suc c)) (f .class)) || shutLater s₀ h f (suc c) l e)
     ≡ not (f .counted) && shutLater s₀ h f c l e
 later-tick s₀ h c l e f q t = go (f .counted) refl (isOpen (ruleOctet s₀ h (suc c)) (f .class)) refl
@@ -146,45 +137,45 @@ later-tick s₀ h c l e f q t = go (f .counted) refl (isOpen (ruleOctet s₀ h (
     go false p false w = sym (later-closed s₀ f h c l e p q w t)
     go false p true w = sym (later-open s₀ f h c l e q w t)
 
-pend-tick : (s₀ k : ℕ) (h : History) (c : ℕ) (l : List (ℕ × Act)) (e : ℕ) (r : Option Frame) → Timely (suc c) l e
+pending-tick : (s₀ k : ℕ) (h : History) (c : ℕ) (l : List (ℕ × Act)) (e : ℕ) (r : Option Frame) → Timely machine (suc c) l e
     → let o : ℕ = ruleOctet s₀ h (suc c) in let d : Option Frame = frameAt (suc c) r in
-    hit k o d + pend s₀ k h (suc c) l e (marked (overran o d) d) ≡ pend s₀ k h c l e r
-unfolding pend
-pend-tick s₀ k h c l e none t = refl
-pend-tick s₀ k h c l e (some f) t = go (leb (f .end) (suc c)) refl
+    hit k o d + pending s₀ k h (suc c) l e (marked (overran o d) d) ≡ pending s₀ k h c l e r
+unfolding pending
+pending-tick s₀ k h c l e none t = refl
+pending-tick s₀ k h c l e (some f) t = go (leb (f .end) (suc c)) refl
   where
     o : ℕ
     o = ruleOctet s₀ h (suc c)
 
     go : (b : Bool) → leb (f .end) (suc c) ≡ b
-        → hit k o (cond b none (some f)) + pend s₀ k h (suc c) l e (marked (overran o (cond b none (some f))) (cond b none (some f)))
-        ≡ pend s₀ k h c l e (some f)
+        → hit k o (cond b none (some f)) + pending s₀ k h (suc c) l e (marked (overran o (cond b none (some f))) (cond b none (some f)))
+        ≡ pending s₀ k h c l e (some f)
     go true p =
         rw (later-over s₀ f h c (suc c) l e (omega (arith, leb-true)) (omega (arith, leb-true)) t, none-and (not (f .counted)), none-and (eqb (f .class) k))
     go false p =
-        settle-pend s₀ k h (suc c) l e o f
+        tested-pending s₀ k h (suc c) l e o f
         ∙ ap (λ b. bit (eqb (f .class) k && b)) (later-tick s₀ h c l e f (omega (arith, leb-false)) t)
 
 -- an act at the clock
 
 -- one that leaves the frame alone
-pend-kept : (s₀ k : ℕ) (h : History) (c : ℕ) (a : Act) (l : List (ℕ × Act)) (e : ℕ) (r : Option Frame) → FrameGood c r
+pending-kept : (s₀ k : ℕ) (h : History) (c : ℕ) (a : Act) (l : List (ℕ × Act)) (e : ℕ) (r : Option Frame) → FrameGood c r
     → let o : ℕ = ruleOctet s₀ ((c, a) ∷ h) c in
-    hit k o r + pend s₀ k ((c, a) ∷ h) c l e (marked (overran o r) r) ≡ pend s₀ k h c ((c, a) ∷ l) e r + 0
-unfolding pend
-pend-kept s₀ k h c a l e none g = refl
-pend-kept s₀ k h c a l e (some f) g =
-    settle-pend s₀ k ((c, a) ∷ h) c l e (ruleOctet s₀ ((c, a) ∷ h) c) f
+    hit k o r + pending s₀ k ((c, a) ∷ h) c l e (marked (overran o r) r) ≡ pending s₀ k h c ((c, a) ∷ l) e r + 0
+unfolding pending
+pending-kept s₀ k h c a l e none g = refl
+pending-kept s₀ k h c a l e (some f) g =
+    tested-pending s₀ k ((c, a) ∷ h) c l e (ruleOctet s₀ ((c, a) ∷ h) c) f
     ∙ ap (λ b. bit (eqb (f .class) k && (not (f .counted) && b))) (sym (later-act s₀ f h c a l e (g .0)))
     ∙ sym (add-zero _)
 
 -- one that begins to send a frame, or finds none
-pend-begun : (s₀ k : ℕ) (h : History) (c : ℕ) (l : List (ℕ × Act)) (e : ℕ) (hs : List ℕ) (v : ℕ) (x : Option ℕ)
+pending-begun : (s₀ k : ℕ) (h : History) (c : ℕ) (l : List (ℕ × Act)) (e : ℕ) (hs : List ℕ) (v : ℕ) (x : Option ℕ)
     → let o : ℕ = ruleOctet s₀ h c in let r : Option Frame = frameFor hs v c x in
-    hit k o r + pend s₀ k h c l e (marked (overran o r) r) ≡ overrunOf s₀ k h c l e r
-unfolding pend frameFor
-pend-begun s₀ k h c l e hs v none = refl
-pend-begun s₀ k h c l e hs v (some j) = settle-pend s₀ k h c l e (ruleOctet s₀ h c) (record { class = j; start = c; end = c + duration (getD hs j 0) v; counted = false })
+    hit k o r + pending s₀ k h c l e (marked (overran o r) r) ≡ overrunOf s₀ k h c l e r
+unfolding pending frameFor
+pending-begun s₀ k h c l e hs v none = refl
+pending-begun s₀ k h c l e hs v (some j) = tested-pending s₀ k h c l e (ruleOctet s₀ h c) (record { class = j; start = c; end = c + duration (getD hs j 0) v; counted = false })
 
 -- the chosen frame is of one of the eight classes and takes some time
 frame-good : (c : ℕ) (hs : List ℕ) (v : ℕ) (q : ℕ → Bool) (n : ℕ) → n ≤ 8 → 0 < v → v ≤ 1000 → FrameGood c (frameFor hs v c (highest q n))
@@ -218,7 +209,7 @@ good-due c (some f) g = go (leb (f .end) (suc c)) refl
 record Counts (s₀ k : ℕ) (h : History) (l : List (ℕ × Act)) (e sum : ℕ) (p : Port) : Type 0 where
   so-far : ℕ
   reads : getD (p .overruns) k 0 ≡ so-far % 2 ^ 64
-  makes : so-far + pend s₀ k h (p .clock) l e (p .frame) ≡ sum
+  makes : so-far + pending s₀ k h (p .clock) l e (p .frame) ≡ sum
 
 good-tick : (p : Port) → Good p → Good (tick p)
 unfolding tick
@@ -227,16 +218,16 @@ good-tick p g = record {
   sent = good-marked (suc (p .clock)) _ (frameAt (suc (p .clock)) (p .frame)) (good-due (p .clock) (p .frame) (g .sent));
 }
 
-counts-tick : {s₀ k : ℕ} {h : History} {l : List (ℕ × Act)} {e sum : ℕ} {p : Port} → Tracks s₀ h p → Good p → Timely (suc (p .clock)) l e
+counts-tick : {s₀ k : ℕ} {h : History} {l : List (ℕ × Act)} {e sum : ℕ} {p : Port} → Tracks s₀ h p → Good p → Timely machine (suc (p .clock)) l e
     → Counts s₀ k h l e sum p → Counts s₀ k h l e sum (tick p)
 unfolding tick shownNow shown
 counts-tick {s₀} {k} {h} {l} {e} {sum} {p} tr g t n =
     let c : ℕ = p .clock in
     let d : Option Frame = frameAt (suc c) (p .frame) in
     let o : ℕ = shown (tick p) (suc c) in
-    let z : hit k o d + pend s₀ k h (suc c) l e (marked (overran o d) d) ≡ pend s₀ k h c l e (p .frame) =
-    ap (λ q. hit k q d + pend s₀ k h (suc c) l e (marked (overran q d) d)) (tracks-shown (tracks-tick tr) (suc c) (omega arith))
-    ∙ pend-tick s₀ k h c l e (p .frame) t in
+    let z : hit k o d + pending s₀ k h (suc c) l e (marked (overran o d) d) ≡ pending s₀ k h c l e (p .frame) =
+    ap (λ q. hit k q d + pending s₀ k h (suc c) l e (marked (overran q d) d)) (tracks-shown (tracks-tick tr) (suc c) (omega arith))
+    ∙ pending-tick s₀ k h c l e (p .frame) t in
     record {
       so-far = n .so-far + hit k o d;
       reads = counted-at k (suc c) o (n .so-far) d (p .overruns) (good-due c (p .frame) (g .sent)) (g .size) (n .reads);
@@ -247,36 +238,36 @@ record Kept (s₀ k : ℕ) (h : History) (l : List (ℕ × Act)) (e sum : ℕ) (
   good : Good p
   counts : Counts s₀ k h l e sum p
 
-kept-ticks : {s₀ k : ℕ} {h : History} {l : List (ℕ × Act)} {e sum : ℕ} (n : ℕ) {p : Port} → Tracks s₀ h p → Timely (p .clock + n) l e
+kept-ticks : {s₀ k : ℕ} {h : History} {l : List (ℕ × Act)} {e sum : ℕ} (n : ℕ) {p : Port} → Tracks s₀ h p → Timely machine (p .clock + n) l e
     → Kept s₀ k h l e sum p → Kept s₀ k h l e sum (ticks machine n p)
 unfolding ticks tick
 kept-ticks zero tr t x = x
 kept-ticks {l = l} {e} (suc n) {p} tr t x =
     let a : suc (p .clock) + n ≡ p .clock + suc n = omega arith in
-    kept-ticks n (tracks-tick tr) (subst (λ u. Timely u l e) (sym a) t)
-    (record { good = good-tick p (x .good); counts = counts-tick tr (x .good) (timely-mono l e (omega arith) t) (x .counts) })
+    kept-ticks n (tracks-tick tr) (subst (λ u. Timely machine u l e) (sym a) t)
+    (record { good = good-tick p (x .good); counts = counts-tick tr (x .good) (timely-mono machine l e (omega arith) t) (x .counts) })
 
 -- an accepted act: what it begins to send comes to the sum
 
--- settled after an act that leaves the frame r, which is good
-settle-kept : {s₀ k : ℕ} {h : History} {l : List (ℕ × Act)} {e sum : ℕ} {p : Port} (a : Act) (r : Option Frame)
+-- newest-operates after an act that leaves the frame r, which is good
+tested-kept : {s₀ k : ℕ} {h : History} {l : List (ℕ × Act)} {e sum : ℕ} {p : Port} (a : Act) (r : Option Frame)
     → accepts a p ≡ true → Tracks s₀ h p → Kept s₀ k h ((p .clock, a) ∷ l) e sum p → FrameGood (p .clock) r
     → perform a p .clock ≡ p .clock
     → perform a p .frame ≡ marked (overran (shown (perform a p) (p .clock)) r) r
     → perform a p .overruns ≡ counted (overran (shown (perform a p) (p .clock)) r) r (p .overruns)
     → (let o : ℕ = ruleOctet s₀ ((p .clock, a) ∷ h) (p .clock) in
-    hit k o r + pend s₀ k ((p .clock, a) ∷ h) (p .clock) l e (marked (overran o r) r)
-    ≡ pend s₀ k h (p .clock) ((p .clock, a) ∷ l) e (p .frame) + overrunOf s₀ k ((p .clock, a) ∷ h) (p .clock) l e (frameBegun s₀ h (p .clock) a))
+    hit k o r + pending s₀ k ((p .clock, a) ∷ h) (p .clock) l e (marked (overran o r) r)
+    ≡ pending s₀ k h (p .clock) ((p .clock, a) ∷ l) e (p .frame) + overrunOf s₀ k ((p .clock, a) ∷ h) (p .clock) l e (frameBegun s₀ h (p .clock) a))
     → Kept s₀ k ((p .clock, a) ∷ h) l e (sum + overrunOf s₀ k ((p .clock, a) ∷ h) (p .clock) l e (frameBegun s₀ h (p .clock) a)) (perform a p)
-settle-kept {s₀} {k} {h} {l} {e} {sum} {p} a r acc tr x fg ec ef ev z =
+tested-kept {s₀} {k} {h} {l} {e} {sum} {p} a r acc tr x fg ec ef ev z =
     let c : ℕ = p .clock in
     let o : ℕ = shown (perform a p) c in
     let eo : o ≡ ruleOctet s₀ ((c, a) ∷ h) c = tracks-shown (tracks-perform a acc tr) c (omega arith) in
-    let y : hit k o r + pend s₀ k ((c, a) ∷ h) c l e (marked (overran o r) r)
-    ≡ pend s₀ k h c ((c, a) ∷ l) e (p .frame) + overrunOf s₀ k ((c, a) ∷ h) c l e (frameBegun s₀ h c a) =
-    ap (λ q. hit k q r + pend s₀ k ((c, a) ∷ h) c l e (marked (overran q r) r)) eo ∙ z in
-    let w : pend s₀ k ((c, a) ∷ h) (perform a p .clock) l e (perform a p .frame) ≡ pend s₀ k ((c, a) ∷ h) c l e (marked (overran o r) r) =
-    (λ i. pend s₀ k ((c, a) ∷ h) (ec i) l e (ef i)) in
+    let y : hit k o r + pending s₀ k ((c, a) ∷ h) c l e (marked (overran o r) r)
+    ≡ pending s₀ k h c ((c, a) ∷ l) e (p .frame) + overrunOf s₀ k ((c, a) ∷ h) c l e (frameBegun s₀ h c a) =
+    ap (λ q. hit k q r + pending s₀ k ((c, a) ∷ h) c l e (marked (overran q r) r)) eo ∙ z in
+    let w : pending s₀ k ((c, a) ∷ h) (perform a p .clock) l e (perform a p .frame) ≡ pending s₀ k ((c, a) ∷ h) c l e (marked (overran o r) r) =
+    (λ i. pending s₀ k ((c, a) ∷ h) (ec i) l e (ef i)) in
     record {
       good = record {
         size = ap length ev ∙ length-counted (overran o r) r (p .overruns) ∙ x .good .size;
@@ -297,52 +288,40 @@ chosen-by : {s₀ : ℕ} {h : History} {p : Port} (hs : List ℕ) (v : ℕ) → 
     → chosen hs v (p .clock) (shownNow p) (lookAhead p) ≡ chosen hs v (p .clock) (ruleOctet s₀ h (p .clock)) (ruleAhead s₀ h (p .clock))
 unfolding shownNow lookAhead ruleAhead
 chosen-by {s₀} {h} {p} hs v t =
-    λ i. chosen hs v (p .clock) (tracks-shown t (p .clock) (omega arith) i) (λ u. octetUnder (t .stands i) (t .opers i) none u)
+    λ i. chosen hs v (p .clock) (tracks-shown t (p .clock) (omega arith) i) (λ u. octetUnder (t .standing i) (t .operating i) none u)
 
-no-pend : (s₀ k : ℕ) (h : History) (c : ℕ) (l : List (ℕ × Act)) (e n : ℕ) → pend s₀ k h c l e none + n ≡ n
-unfolding pend
-no-pend s₀ k h c l e n = zero-add n
+pending-none : (s₀ k : ℕ) (h : History) (c : ℕ) (l : List (ℕ × Act)) (e n : ℕ) → pending s₀ k h c l e none + n ≡ n
+unfolding pending
+pending-none s₀ k h c l e n = zero-add n
 
 kept-perform : {s₀ k : ℕ} {h : History} {l : List (ℕ × Act)} {e sum : ℕ} {p : Port} (a : Act)
     → accepts a p ≡ true → Tracks s₀ h p → Kept s₀ k h ((p .clock, a) ∷ l) e sum p
     → Kept s₀ k ((p .clock, a) ∷ h) l e (sum + overrunOf s₀ k ((p .clock, a) ∷ h) (p .clock) l e (frameBegun s₀ h (p .clock) a)) (perform a p)
 unfolding perform shownNow submitted shown chosen
 kept-perform {s₀} {k} {h} {l} {e} {p = p} on acc t x =
-    settle-kept on (p .frame) acc t x (x .good .sent) refl refl refl (pend-kept s₀ k h (p .clock) on l e (p .frame) (x .good .sent))
+    tested-kept on (p .frame) acc t x (x .good .sent) refl refl refl (pending-kept s₀ k h (p .clock) on l e (p .frame) (x .good .sent))
 kept-perform {s₀} {k} {h} {l} {e} {p = p} off acc t x =
-    settle-kept off (p .frame) acc t x (x .good .sent) refl refl refl (pend-kept s₀ k h (p .clock) off l e (p .frame) (x .good .sent))
+    tested-kept off (p .frame) acc t x (x .good .sent) refl refl refl (pending-kept s₀ k h (p .clock) off l e (p .frame) (x .good .sent))
 kept-perform {s₀} {k} {h} {l} {e} {p = p} (standing q) acc t x =
-    settle-kept (standing q) (p .frame) acc t x (x .good .sent) refl refl refl (pend-kept s₀ k h (p .clock) (standing q) l e (p .frame) (x .good .sent))
+    tested-kept (standing q) (p .frame) acc t x (x .good .sent) refl refl refl (pending-kept s₀ k h (p .clock) (standing q) l e (p .frame) (x .good .sent))
 kept-perform {s₀} {k} {h} {l} {e} {p = p} (submit q) acc t x =
-    settle-kept (submit q) (p .frame) acc t x (x .good .sent) refl refl refl (pend-kept s₀ k h (p .clock) (submit q) l e (p .frame) (x .good .sent))
+    tested-kept (submit q) (p .frame) acc t x (x .good .sent) refl refl refl (pending-kept s₀ k h (p .clock) (submit q) l e (p .frame) (x .good .sent))
 kept-perform {s₀} {k} {h} {l} {e} {p = p} (transmit hs v) acc t x =
     let c : ℕ = p .clock in
     let a : Act = transmit hs v in
     let fine = may-send hs v p acc in
-    settle-kept a (chosen hs v c (shownNow p) (lookAhead p)) acc t x
+    tested-kept a (chosen hs v c (shownNow p) (lookAhead p)) acc t x
     (frame-good c hs v (qualifies hs v c (shownNow p) (lookAhead p)) 8 (omega arith) (fine .0 .0) (fine .0 .1)) refl refl refl
-    (pend-begun s₀ k ((c, a) ∷ h) c l e hs v (highest (qualifies hs v c (shownNow p) (lookAhead p)) 8)
+    (pending-begun s₀ k ((c, a) ∷ h) c l e hs v (highest (qualifies hs v c (shownNow p) (lookAhead p)) 8)
     ∙ ap (overrunOf s₀ k ((c, a) ∷ h) c l e) (chosen-by hs v t)
-    ∙ sym (ap (λ f. pend s₀ k h c ((c, a) ∷ l) e f + overrunOf s₀ k ((c, a) ∷ h) c l e (frameBegun s₀ h c a)) (fine .1) ∙ no-pend s₀ k h c ((c, a) ∷ l) e _))
+    ∙ sym (ap (λ f. pending s₀ k h c ((c, a) ∷ l) e f + overrunOf s₀ k ((c, a) ∷ h) c l e (frameBegun s₀ h c a)) (fine .1) ∙ pending-none s₀ k h c ((c, a) ∷ l) e _))
 
 -- a series of calls
 
-run-timely : (cs : List (Call Act)) (p : Port) → Timely (p .clock) (run machine cs p .acts) (run machine cs p .port .clock)
-unfolding run Timely
-run-timely [] p = omega arith
-run-timely (step g m ∷ cs) p =
-    let n : ℕ = elapsed machine (step g m) p in
-    timely-mono (run machine cs (ticks machine n p) .acts) _ (omega (arith, clock-ticks machine n p)) (run-timely cs (ticks machine n p))
-run-timely (attempt a ∷ cs) p =
-    cases (λ (r : Outcome Port ℕ Act). Timely (p .clock) (r .acts) (r .port .clock)) (accepts a p) _ _
-    (λ _. let r = run machine cs (perform a p) in
-    (omega arith, subst (λ t. Timely t (r .acts) (r .port .clock)) (clock-perform a p) (run-timely cs (perform a p))))
-    (λ _. run-timely cs p)
-
-pend-end : (s₀ k : ℕ) (h : History) (c : ℕ) (r : Option Frame) → pend s₀ k h c [] c r ≡ 0
-unfolding pend shutLater
-pend-end s₀ k h c none = refl
-pend-end s₀ k h c (some f) = rw (sub-self, met-none (ruleOctet s₀ h) c (some f), none-and (not (f .counted)), none-and (eqb (f .class) k))
+pending-end : (s₀ k : ℕ) (h : History) (c : ℕ) (r : Option Frame) → pending s₀ k h c [] c r ≡ 0
+unfolding pending shutLater
+pending-end s₀ k h c none = refl
+pending-end s₀ k h c (some f) = rw (sub-self, meets-none (ruleOctet s₀ h) c (some f), none-and (not (f .counted)), none-and (eqb (f .class) k))
 
 run-kept : {s₀ k sum : ℕ} (cs : List (Call Act)) {h : History} {p : Port} → Tracks s₀ h p
     → Kept s₀ k h (run machine cs p .acts) (run machine cs p .port .clock) sum p
@@ -350,13 +329,13 @@ run-kept : {s₀ k sum : ℕ} (cs : List (Call Act)) {h : History} {p : Port} �
     ≡ (sum + ruleOverruns s₀ k h (run machine cs p .acts) (run machine cs p .port .clock)) % 2 ^ 64
 unfolding run ruleOverruns
 run-kept {s₀} {k} {sum} [] {h} {p} t x =
-    let z : x .counts .so-far ≡ sum + 0 = omega (arith, pend-end s₀ k h (p .clock) (p .frame), x .counts .makes) in
+    let z : x .counts .so-far ≡ sum + 0 = omega (arith, pending-end s₀ k h (p .clock) (p .frame), x .counts .makes) in
     x .counts .reads ∙ ap (λ n. n % 2 ^ 64) z
 run-kept (step g m ∷ cs) {h} {p} t x =
     let n : ℕ = elapsed machine (step g m) p in
     let r = run machine cs (ticks machine n p) in
     run-kept cs (tracks-ticks n t)
-    (kept-ticks n t (subst (λ u. Timely u (r .acts) (r .port .clock)) (clock-ticks machine n p) (run-timely cs (ticks machine n p))) x)
+    (kept-ticks n t (subst (λ u. Timely machine u (r .acts) (r .port .clock)) (clock-ticks machine n p) (run-timely machine cs (ticks machine n p))) x)
 run-kept {s₀} {k} {sum} (attempt a ∷ cs) {h} {p} t w =
     cases (λ (r : Outcome Port ℕ Act). Kept s₀ k h (r .acts) (r .port .clock) sum p
     → getD (r .port .overruns) k 0 ≡ (sum + ruleOverruns s₀ k h (r .acts) (r .port .clock)) % 2 ^ 64) (accepts a p) _ _
@@ -367,7 +346,7 @@ run-kept {s₀} {k} {sum} (attempt a ∷ cs) {h} {p} t w =
 pub run-overruns : (t₀ s₀ k : ℕ) (cs : List (Call Act)) → k < 8
     → getD (run machine cs (newPort t₀ s₀) .port .overruns) k 0
     ≡ ruleOverruns s₀ k [] (run machine cs (newPort t₀ s₀) .acts) (run machine cs (newPort t₀ s₀) .port .clock) % 2 ^ 64
-unfolding newPort pend
+unfolding newPort pending
 run-overruns t₀ s₀ k cs h =
     run-kept {k = k} {sum = 0} cs (tracks-new t₀ s₀) (record {
       good = record { size = refl; sent = tt };

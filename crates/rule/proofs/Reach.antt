@@ -1,10 +1,10 @@
--- What one step does with its room: it reports the first m changes, reaches the goal if that is all of them, and otherwise stops just before
--- the next one. Over any machine. Assumes nothing.
+-- Document 01, 'Step': what one step does with its room. It reports the first m changes; it reaches the goal if those are all; otherwise it stands 1 ns
+-- before the next one (`stepped`). With room for at least one change it moves on unless the goal is now (`moves`). Over any machine.
+-- Assumes nothing.
 use mathlib.Core.Path.{_≡_, refl, ap, sym, _∙_}
 use mathlib.Core.Bool.{Bool, true, false}
-use mathlib.Core.List.{List, [], _∷_, _++_}
-use Prim.Native.Nat.{ℕ, zero, suc, _+_, _-_, _≤_, _<_}
-use native.Mathlib.Nat.{zero-add, suc-add}
+use mathlib.Core.List.{_∷_}
+use Prim.Native.Nat.{ℕ, zero, suc, _-_, _≤_, _<_}
 use native.Mathlib.Omega.{arith}
 use lib.ListN.{length, take}
 use lib.Seq.{take-nil}
@@ -68,17 +68,3 @@ module _ (M : Machine) where
       go : (b : Bool) → 0 < onward b (suc m) (λ r. reach M n r (tick s))
       go true = omega arith
       go false = omega arith
-
-  -- what a program skips: instants that show the same
-  pub skip-log : (n k : ℕ) (s : State) → ((j : ℕ) → j < n → alike (ticks M j s) ≡ true) → log M (n + k) s ≡ log M k (ticks M n s)
-  unfolding ticks noted
-  skip-log zero k s h = rw zero-add
-  skip-log (suc n) k s h =
-      rw suc-add (log-suc (n + k) s (h 0 (omega arith)) ∙ skip-log n k (tick s) (λ j l. h (suc j) (omega arith)))
-
-  pub skip-reach : (n k m : ℕ) (s : State) → ((j : ℕ) → j < n → alike (ticks M j s) ≡ true) → reach M (n + k) m s ≡ n + reach M k m (ticks M n s)
-  unfolding ticks
-  skip-reach zero k m s h = rw (zero-add k, zero-add (reach M k m s))
-  skip-reach (suc n) k m s h =
-      rw (suc-add n k, suc-add n (reach M k m (ticks M n (tick s))))
-      (reach-suc (n + k) m s (h 0 (omega arith)) ∙ ap suc (skip-reach n k m (tick s) (λ j l. h (suc j) (omega arith))))

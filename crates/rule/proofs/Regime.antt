@@ -1,11 +1,12 @@
--- Over a span in which one cycle runs, what is shown is one list read from one start. Assumes nothing.
-use mathlib.Core.Path.{_≡_, refl, ap, sym, _∙_}
+-- Over a span in which one cycle runs, what is shown is one list read from one start. In order: the plain cycle and the last old cycle of a configuration;
+-- what a port shows, by its mark and what operates and waits.
+-- Assumes nothing.
+use mathlib.Core.Path.{_≡_, refl, ap, _∙_}
 use mathlib.Core.Bool.{Bool, true, false, cond}
-use mathlib.Core.List.{List, [], _∷_}
+use mathlib.Core.List.{List}
 use mathlib.Core.Option.{Option, none, some}
-use Prim.Native.Nat.{ℕ, zero, suc, _+_, _-_, _*_, _≤_, _<_, min}
+use Prim.Native.Nat.{ℕ, suc, _+_, _-_, _≤_, _<_, min}
 use native.Mathlib.Omega.{arith}
-use lib.Dec.{ltb, leb}
 use borrow.Author.Tests.{le-leb, lt-leb}
 use Rattle.rule.specs.Entries.{Entry, octetAt}
 use Rattle.rule.specs.Cycle.{Config, Valid, startNo, cycleNo, lastNo, plainStart, bentStart, plainOctet, bentOctet}

@@ -1,6 +1,7 @@
--- What a port will show, if no act comes, does not change as its clock goes on (`shown-ticks`): so the changes that steps report are those of
--- one function of the instant. Assumes nothing.
-use mathlib.Core.Path.{_≡_, refl, ap, sym, _∙_}
+-- What a port will show, if no act comes, does not depend on the clock that asks (`shown-ticks`): so the changes that steps report are those of one
+-- function of the instant.
+-- Assumes nothing.
+use mathlib.Core.Path.{_≡_, refl, ap, _∙_}
 use mathlib.Core.Bool.{Bool, true, false, cond}
 use mathlib.Core.Option.{Option, none, some}
 use Prim.Native.Nat.{ℕ, zero, suc, _+_, _≤_, _<_}
@@ -13,7 +14,7 @@ use Rattle.rule.specs.Machine.{ticks}
 use Rattle.rule.specs.PortMachine.{machine}
 use Rattle.rule.proofs.Cut.{clock-ticks}
 
--- a change that falls due at u has been ruleChanges of from u on
+-- a change that falls due at u is counted in from u on
 due-octet : (st : ℕ) (o : Option Config) (w : Option Waiting) (u t : ℕ) → u ≤ t → octetUnder st (operatingAt u o w) (waitingAt u w) t ≡ octetUnder st o w t
 unfolding octetUnder
 due-octet st o none u t h = refl
@@ -34,7 +35,7 @@ unfolding ticks
 shown-ticks zero p t h = refl
 shown-ticks (suc n) p t h = shown-ticks n (tick p) t (unfold tick in omega arith) ∙ shown-tick p t (omega arith)
 
--- at every instant that steps come to, the gates show what the port ruleChanges before
+-- at every instant that steps come to, the gates show what the port showed for it before
 pub now-ticks : (n : ℕ) (p : Port) → shownNow (ticks machine n p) ≡ shown p (p .clock + n)
 unfolding shownNow
 now-ticks n p = ap (shown (ticks machine n p)) (clock-ticks machine n p) ∙ shown-ticks n p (p .clock + n) (omega arith)

@@ -1,29 +1,29 @@
 -- A sound port stays sound: what falls due and the overrun test keep it so (`sound-ticks`), and so does every accepted act (`sound-perform`); a new port
 -- is sound (`sound-new`). In a sound port the last old cycle begins at the start that document 01's rule asks for (`sound-last`).
 -- Assumes nothing.
-use mathlib.Core.Path.{_≡_, refl, ap, sym, _∙_, subst₂}
+use mathlib.Core.Path.{_≡_, refl, sym, _∙_, subst₂}
 use mathlib.Core.Bool.{Bool, true, false, cond, not, _&&_, true≢false}
 use mathlib.Core.List.{List, [], _∷_}
 use mathlib.Core.Option.{Option, none, some}
-use Prim.Native.Nat.{ℕ, zero, suc, _+_, _-_, _*_, _/_, _%_, _≤_, _<_}
+use Prim.Native.Nat.{ℕ, zero, suc, _+_, _-_, _*_, _/_, _%_, _≤_}
 use native.Mathlib.Nat.{mul-le-mul-left, div-mul-le-self}
 use native.Mathlib.Omega.{arith}
-use lib.Dec.{leb, ltb, eqb}
+use lib.Dec.{leb, eqb}
 use lib.ListN.{length, getD}
 use borrow.Author.Tests.{leb-true, leb-false, eqb-true, not-false}
 use Rattle.rule.specs.Limits.{largestList, largestInstant, largestCycle, longestSpan, shortestFrame, longestFrame}
-use Rattle.rule.specs.Cycle.{Config, Valid, cycleOf, cycleOffered, changeInstant, startingAt, lastNo}
+use Rattle.rule.specs.Cycle.{Config, Valid, cycleOf, cycleOffered, lastNo}
 use Rattle.rule.specs.Port.{Port, Waiting, Frame, newPort, shownNow, operatingAt, waitingAt, frameAt, due, overran, marked, tested, tick}
 use Rattle.rule.specs.Choice.{duration, lookAhead, qualifies, highest, frameFor, chosen}
 use Rattle.rule.specs.Acts.{Act, on, off, standing, submit, transmit, Submission, configOf, submitted, performed, perform}
-use Rattle.rule.specs.Orders.{any, lengthOffered, hasZeroInterval, speedOffered, headOffered, accepts}
+use Rattle.rule.specs.Orders.{any, lengthOffered, headOffered, accepts}
 use Rattle.rule.specs.Machine.{ticks}
 use Rattle.rule.specs.PortMachine.{machine}
-use Rattle.rule.specs.Sound.{SoundConfig, SoundOperating, SoundWait, SoundWaiting, SoundSending, SoundFrame, Sound}
+use Rattle.rule.specs.Sound.{SoundConfig, SoundOperating, SoundWaiting, SoundFrame, Sound}
 use Rattle.rule.proofs.Cut.{cases}
-use Rattle.rule.proofs.Orders.{PassedSubmit, submit-passed, PassedTransmit, transmit-passed}
+use Rattle.rule.proofs.Orders.{PassedSubmit, submit-passed, transmit-passed}
 use Rattle.rule.proofs.Cycles.{Last, last-no}
-use Rattle.rule.proofs.Last.{change-near}
+use Rattle.rule.proofs.ClosedForms.{change-near}
 use Rattle.rule.proofs.Choice.{speed-range, duration-some}
 
 -- time

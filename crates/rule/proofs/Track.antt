@@ -1,22 +1,23 @@
--- The port record says what the rule reads off the accepted acts. Assumes nothing.
+-- The port record says what the rule reads off the accepted acts: mark, standing octet, what operates and waits, ConfigChangeError (`tracks-run`). In
+-- order: one instant more; the octet; an accepted act; any series of calls. Changes and overruns are in `Changes` and `Overrun`.
+-- Assumes nothing.
 use mathlib.Core.Path.{_≡_, refl, ap, ap₂, sym, _∙_}
-use mathlib.Core.Bool.{Bool, true, false, cond, not, _&&_, true≢false}
-use mathlib.Core.List.{List, [], _∷_, _++_, reverseAux, reverse}
+use mathlib.Core.Bool.{Bool, true, false, cond, _&&_, true≢false}
+use mathlib.Core.List.{List, [], _∷_, reverseAux}
 use mathlib.Core.Option.{Option, none, some}
-use Prim.Native.Nat.{ℕ, zero, suc, _+_, _-_, _^_, _%_, _≤_, _<_}
-use native.Mathlib.Nat.{mod-add-mod, zero-mod}
+use Prim.Native.Nat.{ℕ, zero, suc, _-_, _^_, _%_, _≤_}
+use native.Mathlib.Nat.{mod-add-mod}
 use native.Mathlib.Numerals.{add-one}
 use native.Mathlib.Omega.{arith}
-use lib.Dec.{leb, ltb, eqb}
-use borrow.Author.Tests.{leb-true, le-leb, eqb-true}
-use Rattle.rule.specs.Cycle.{Config}
-use Rattle.rule.specs.Port.{Port, Waiting, raise, octetUnder, shown, shownNow, operatingAt, waitingAt, tick, newPort}
-use Rattle.rule.specs.Acts.{Act, on, off, standing, submit, transmit, Submission, isSome, configOf, errorsAfter, submitted, perform}
+use lib.Dec.{leb, ltb}
+use borrow.Author.Tests.{leb-true, le-leb}
+use Rattle.rule.specs.Port.{Port, Waiting, raise, octetUnder, shown, operatingAt, waitingAt, tick, newPort}
+use Rattle.rule.specs.Acts.{Act, on, off, standing, submit, transmit, isSome, configOf, errorsAfter, submitted, perform}
 use Rattle.rule.specs.Orders.{accepts}
 use Rattle.rule.specs.Machine.{ticks, Call, step, attempt, Outcome, run, elapsed}
 use Rattle.rule.specs.PortMachine.{machine}
 use Rattle.rule.specs.History.{History, markOf, standingOf, submissionsOf, newest, operatingOf, octetBy, ruleOctet, operates, ruleErrors}
-use Rattle.rule.proofs.Cut.{cases, clock-ticks}
+use Rattle.rule.proofs.Cut.{cases}
 use Rattle.rule.proofs.Orders.{submit-passed}
 
 -- what waits at t, by the submissions
@@ -27,27 +28,27 @@ waitingOf (w ∷ l) t = cond (leb (w .config .start) t) none (some w)
 
 pub record Tracks (s₀ : ℕ) (h : History) (p : Port) : Type 0 where
   pub mark : p .on ≡ markOf h
-  pub stands : p .standing ≡ standingOf s₀ h
-  pub opers : p .operating ≡ operatingOf (submissionsOf h) (p .clock)
-  pub waits : p .waiting ≡ waitingOf (submissionsOf h) (p .clock)
-  pub errs : p .errors ≡ ruleErrors h % 2 ^ 64
+  pub standing : p .standing ≡ standingOf s₀ h
+  pub operating : p .operating ≡ operatingOf (submissionsOf h) (p .clock)
+  pub waiting : p .waiting ≡ waitingOf (submissionsOf h) (p .clock)
+  pub errors : p .errors ≡ ruleErrors h % 2 ^ 64
 
 -- time goes on by one instant
 
-next-oper : (l : List Waiting) (t : ℕ) → operatingAt (suc t) (operatingOf l t) (waitingOf l t) ≡ operatingOf l (suc t)
+next-operating : (l : List Waiting) (t : ℕ) → operatingAt (suc t) (operatingOf l t) (waitingOf l t) ≡ operatingOf l (suc t)
 unfolding operatingOf waitingOf
-next-oper [] t = refl
-next-oper (w ∷ l) t = go (leb (w .config .start) t) refl
+next-operating [] t = refl
+next-operating (w ∷ l) t = go (leb (w .config .start) t) refl
   where
     go : (b : Bool) → leb (w .config .start) t ≡ b
         → operatingAt (suc t) (cond b (some (w .config)) (newest l)) (cond b none (some w)) ≡ cond (leb (w .config .start) (suc t)) (some (w .config)) (newest l)
     go true e = rw (le-leb (w .config .start) (suc t) (omega (arith, leb-true)))
     go false e = refl
 
-next-wait : (l : List Waiting) (t : ℕ) → waitingAt (suc t) (waitingOf l t) ≡ waitingOf l (suc t)
+next-waiting : (l : List Waiting) (t : ℕ) → waitingAt (suc t) (waitingOf l t) ≡ waitingOf l (suc t)
 unfolding waitingOf
-next-wait [] t = refl
-next-wait (w ∷ l) t = go (leb (w .config .start) t) refl
+next-waiting [] t = refl
+next-waiting (w ∷ l) t = go (leb (w .config .start) t) refl
   where
     go : (b : Bool) → leb (w .config .start) t ≡ b → waitingAt (suc t) (cond b none (some w)) ≡ cond (leb (w .config .start) (suc t)) none (some w)
     go true e = rw (le-leb (w .config .start) (suc t) (omega (arith, leb-true)))
@@ -57,10 +58,10 @@ pub tracks-tick : {s₀ : ℕ} {h : History} {p : Port} → Tracks s₀ h p → 
 unfolding tick
 tracks-tick {h = h} {p} k = record {
   mark = k .mark;
-  stands = k .stands;
-  opers = ap₂ (operatingAt (suc (p .clock))) (k .opers) (k .waits) ∙ next-oper (submissionsOf h) (p .clock);
-  waits = ap (waitingAt (suc (p .clock))) (k .waits) ∙ next-wait (submissionsOf h) (p .clock);
-  errs = k .errs;
+  standing = k .standing;
+  operating = ap₂ (operatingAt (suc (p .clock))) (k .operating) (k .waiting) ∙ next-operating (submissionsOf h) (p .clock);
+  waiting = ap (waitingAt (suc (p .clock))) (k .waiting) ∙ next-waiting (submissionsOf h) (p .clock);
+  errors = k .errors;
 }
 
 pub tracks-ticks : {s₀ : ℕ} {h : History} (n : ℕ) {p : Port} → Tracks s₀ h p → Tracks s₀ h (ticks machine n p)
@@ -70,10 +71,10 @@ tracks-ticks (suc n) k = tracks-ticks n (tracks-tick k)
 
 -- the octet
 
-by-list : (st : ℕ) (l : List Waiting) (c t : ℕ) → c ≤ t → octetUnder st (operatingOf l c) (waitingOf l c) t ≡ octetBy st l t
+octetBy-operating : (st : ℕ) (l : List Waiting) (c t : ℕ) → c ≤ t → octetUnder st (operatingOf l c) (waitingOf l c) t ≡ octetBy st l t
 unfolding operatingOf waitingOf newest octetUnder octetBy
-by-list st [] c t h = refl
-by-list st (w ∷ l) c t h = go (leb (w .config .start) c) refl l
+octetBy-operating st [] c t h = refl
+octetBy-operating st (w ∷ l) c t h = go (leb (w .config .start) c) refl l
   where
     go : (b : Bool) → leb (w .config .start) c ≡ b → (l : List Waiting)
         → octetUnder st (cond b (some (w .config)) (newest l)) (cond b none (some w)) t ≡ octetBy st (w ∷ l) t
@@ -85,30 +86,30 @@ by-list st (w ∷ l) c t h = go (leb (w .config .start) c) refl l
 pub tracks-shown : {s₀ : ℕ} {h : History} {p : Port} → Tracks s₀ h p → (t : ℕ) → p .clock ≤ t → shown p t ≡ ruleOctet s₀ h t
 unfolding shown ruleOctet
 tracks-shown {s₀} {h} {p} k t c =
-    (λ i. cond (k .mark i) (octetUnder (k .stands i) (k .opers i) (k .waits i) t) (k .stands i))
-    ∙ ap (λ n. cond (markOf h) n (standingOf s₀ h)) (by-list (standingOf s₀ h) (submissionsOf h) (p .clock) t c)
+    (λ i. cond (k .mark i) (octetUnder (k .standing i) (k .operating i) (k .waiting i) t) (k .standing i))
+    ∙ ap (λ n. cond (markOf h) n (standingOf s₀ h)) (octetBy-operating (standingOf s₀ h) (submissionsOf h) (p .clock) t c)
 
 -- an act
 
 -- where nothing waits, what operates is the newest submission
-settled : (l : List Waiting) (t : ℕ) → isSome (waitingOf l t) ≡ false → operatingOf l t ≡ newest l
+newest-operates : (l : List Waiting) (t : ℕ) → isSome (waitingOf l t) ≡ false → operatingOf l t ≡ newest l
 unfolding operatingOf waitingOf newest
-settled [] t e = refl
-settled (w ∷ l) t e = go (leb (w .config .start) t) e
+newest-operates [] t e = refl
+newest-operates (w ∷ l) t e = go (leb (w .config .start) t) e
   where
     go : (b : Bool) → isSome (cond b none (some w)) ≡ false → cond b (some (w .config)) (newest l) ≡ some (w .config)
     go true e = refl
     go false e = absurd (true≢false e)
 
-settled-operates : (l : List Waiting) (t : ℕ) → isSome (waitingOf l t) ≡ false → isSome (operatingOf l t) ≡ operates l t
+newest-counts : (l : List Waiting) (t : ℕ) → isSome (waitingOf l t) ≡ false → isSome (operatingOf l t) ≡ operates l t
 unfolding operatingOf waitingOf newest operates
-settled-operates [] t e = refl
-settled-operates (w ∷ []) t e = go (leb (w .config .start) t)
+newest-counts [] t e = refl
+newest-counts (w ∷ []) t e = go (leb (w .config .start) t)
   where
     go : (b : Bool) → isSome (cond b (some (w .config)) none) ≡ b
     go true = refl
     go false = refl
-settled-operates (w ∷ v ∷ l) t e = go (leb (w .config .start) t)
+newest-counts (w ∷ v ∷ l) t e = go (leb (w .config .start) t)
   where
     go : (b : Bool) → isSome (cond b (some (w .config)) (some (v .config))) ≡ true
     go true = refl
@@ -121,25 +122,25 @@ raised false n = refl
 
 pub tracks-perform : {s₀ : ℕ} {h : History} {p : Port} (a : Act) → accepts a p ≡ true → Tracks s₀ h p → Tracks s₀ ((p .clock, a) ∷ h) (perform a p)
 unfolding perform markOf standingOf submissionsOf ruleErrors operatingOf waitingOf submitted errorsAfter
-tracks-perform on e k = record { mark = refl; stands = k .stands; opers = k .opers; waits = k .waits; errs = k .errs }
-tracks-perform off e k = record { mark = refl; stands = k .stands; opers = refl; waits = refl; errs = k .errs }
-tracks-perform (standing o) e k = record { mark = k .mark; stands = refl; opers = k .opers; waits = k .waits; errs = k .errs }
+tracks-perform on e k = record { mark = refl; standing = k .standing; operating = k .operating; waiting = k .waiting; errors = k .errors }
+tracks-perform off e k = record { mark = refl; standing = k .standing; operating = refl; waiting = refl; errors = k .errors }
+tracks-perform (standing o) e k = record { mark = k .mark; standing = refl; operating = k .operating; waiting = k .waiting; errors = k .errors }
 tracks-perform {h = h} {p} (submit x) e k =
-    let none : isSome (waitingOf (submissionsOf h) (p .clock)) ≡ false = ap isSome (sym (k .waits)) ∙ submit-passed x p e .none-waits in
+    let none : isSome (waitingOf (submissionsOf h) (p .clock)) ≡ false = ap isSome (sym (k .waiting)) ∙ submit-passed x p e .none-waits in
     record {
       mark = k .mark;
-      stands = k .stands;
-      opers = ap (λ o. operatingAt (p .clock) o (some (record { config = configOf (p .clock) x; since = p .clock }))) (k .opers ∙ settled (submissionsOf h) (p .clock) none);
-      waits = refl;
-      errs = (λ i. errorsAfter (p .clock) x (k .opers i) (k .errs i))
-          ∙ ap (λ b. cond (ltb (x .base) (p .clock) && b) (raise (ruleErrors h % 2 ^ 64)) (ruleErrors h % 2 ^ 64)) (settled-operates (submissionsOf h) (p .clock) none)
+      standing = k .standing;
+      operating = ap (λ o. operatingAt (p .clock) o (some (record { config = configOf (p .clock) x; since = p .clock }))) (k .operating ∙ newest-operates (submissionsOf h) (p .clock) none);
+      waiting = refl;
+      errors = (λ i. errorsAfter (p .clock) x (k .operating i) (k .errors i))
+          ∙ ap (λ b. cond (ltb (x .base) (p .clock) && b) (raise (ruleErrors h % 2 ^ 64)) (ruleErrors h % 2 ^ 64)) (newest-counts (submissionsOf h) (p .clock) none)
           ∙ raised (ltb (x .base) (p .clock) && operates (submissionsOf h) (p .clock)) (ruleErrors h);
     }
-tracks-perform (transmit hs v) e k = record { mark = k .mark; stands = k .stands; opers = k .opers; waits = k .waits; errs = k .errs }
+tracks-perform (transmit hs v) e k = record { mark = k .mark; standing = k .standing; operating = k .operating; waiting = k .waiting; errors = k .errors }
 
 pub tracks-new : (t s₀ : ℕ) → Tracks s₀ [] (newPort t s₀)
 unfolding newPort markOf standingOf submissionsOf ruleErrors operatingOf waitingOf
-tracks-new t s₀ = record { mark = refl; stands = refl; opers = refl; waits = refl; errs = refl }
+tracks-new t s₀ = record { mark = refl; standing = refl; operating = refl; waiting = refl; errors = refl }
 
 -- whatever is called: the port says what the rule reads off the acts accepted on the way
 pub tracks-run : {s₀ : ℕ} (cs : List (Call Act)) {h : History} {p : Port} → Tracks s₀ h p

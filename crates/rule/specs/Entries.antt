@@ -1,7 +1,7 @@
 -- Document 01, 'The list and its octets' and, in 'What the gates show', the lookup (8.6.9.2): entry 1 covers offset 0 up to its interval, and so on;
 -- the lookup stops at the first entry whose end lies past the offset and yields its number; beyond all entries the last one holds.
 -- Assumes nothing.
-use mathlib.Core.Bool.{Bool, cond}
+use mathlib.Core.Bool.{cond}
 use mathlib.Core.List.{List, [], _∷_, map}
 use Prim.Native.Nat.{ℕ, suc, _-_}
 use lib.Dec.{ltb}

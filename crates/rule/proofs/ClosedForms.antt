@@ -1,13 +1,15 @@
--- The start of the last old cycle in closed form, as a program computes it, and how late it is. Assumes nothing.
+-- The start of a plain cycle, the start of the last old cycle and the change instant in closed form, as a program computes them at any distance, and how
+-- late each can be.
+-- Assumes nothing.
 use mathlib.Core.Path.{_≡_, refl, ap, ap₂, sym, _∙_}
 use mathlib.Core.Bool.{Bool, true, false, cond}
-use Prim.Native.Nat.{ℕ, zero, suc, _+_, _-_, _*_, _/_, _≤_, _<_, pred, max}
+use Prim.Native.Nat.{ℕ, suc, _+_, _-_, _*_, _/_, _≤_, _<_, pred, max}
 use native.Mathlib.Nat.{zero-div, div-mul-le-self}
 use native.Mathlib.Numerals.{add-one}
 use native.Mathlib.Omega.{arith}
 use lib.Dec.{leb}
 use borrow.Author.Tests.{leb-true, leb-false}
-use Rattle.rule.specs.Cycle.{Config, Valid, startNo, cycleNo, firstNo, lastNo, plainStart, changeInstant}
+use Rattle.rule.specs.Cycle.{Config, startNo, cycleNo, firstNo, lastNo, plainStart, changeInstant}
 
 first-pred : (f : Config) (x : ℕ) → pred (firstNo f x) ≡ (x - (f .start + 1)) / f .cycle
 unfolding firstNo cycleNo

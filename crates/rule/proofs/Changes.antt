@@ -1,8 +1,9 @@
--- The changes that a series of calls reports, joined end to end, are those of the rule over the accepted acts (`run-told`). Assumes nothing.
+-- The changes that a series of calls reports, joined end to end, are those of the rule over the accepted acts (`run-changes`).
+-- Assumes nothing.
 use mathlib.Core.Path.{_≡_, refl, ap, sym, _∙_, subst}
 use mathlib.Core.Bool.{Bool, true, false, cond}
 use mathlib.Core.List.{List, [], _∷_, _++_, append-assoc}
-use Prim.Native.Nat.{ℕ, zero, suc, _+_, _-_, _^_, _%_, _≤_, _<_}
+use Prim.Native.Nat.{ℕ, zero, suc, _+_, _-_, _≤_, _<_}
 use native.Mathlib.Nat.{zero-add, suc-add, add-suc, add-zero, sub-self}
 use native.Mathlib.Numerals.{add-one}
 use native.Mathlib.Omega.{arith}
@@ -14,7 +15,7 @@ use Rattle.rule.specs.Orders.{accepts}
 use Rattle.rule.specs.Machine.{ticks, noted, log, Call, step, attempt, Outcome, run, elapsed}
 use Rattle.rule.specs.PortMachine.{clock-perform, machine}
 use Rattle.rule.specs.History.{History, ruleOctet, changes, ruleChanges}
-use Rattle.rule.proofs.Cut.{cases, clock-ticks, From, run-from}
+use Rattle.rule.proofs.Cut.{cases, clock-ticks, Timely, run-timely}
 use Rattle.rule.proofs.Shown.{now-ticks}
 use Rattle.rule.proofs.Track.{Tracks, tracks-ticks, tracks-shown, tracks-perform}
 
@@ -62,32 +63,32 @@ changes-to f lo k t h =
     let e : t - lo ≡ k + (t - (lo + k)) = omega arith in
     ap (changes f lo) e ∙ changes-add f lo k (t - (lo + k))
 
-told-cut : (s₀ : ℕ) (h : History) (lo k : ℕ) (l : List (ℕ × Act)) (e : ℕ) → From machine (lo + k) l e
+ruleChanges-cut : (s₀ : ℕ) (h : History) (lo k : ℕ) (l : List (ℕ × Act)) (e : ℕ) → Timely machine (lo + k) l e
     → ruleChanges s₀ h lo l e ≡ changes (ruleOctet s₀ h) lo k ++ ruleChanges s₀ h (lo + k) l e
-unfolding ruleChanges From
-told-cut s₀ h lo k [] e c = changes-to (ruleOctet s₀ h) lo k e c
-told-cut s₀ h lo k (x ∷ l) e c = rw (changes-to (ruleOctet s₀ h) lo k (x .0) c, append-assoc)
+unfolding ruleChanges Timely
+ruleChanges-cut s₀ h lo k [] e c = changes-to (ruleOctet s₀ h) lo k e c
+ruleChanges-cut s₀ h lo k (x ∷ l) e c = rw (changes-to (ruleOctet s₀ h) lo k (x .0) (c .0), append-assoc)
 
 none-yet : (f : ℕ → ℕ) (lo : ℕ) → changes f lo (lo - lo) ≡ []
 unfolding changes
 none-yet f lo = rw sub-self
 
-pub run-told : {s₀ : ℕ} (cs : List (Call Act)) {h : History} {p : Port} → Tracks s₀ h p
+pub run-changes : {s₀ : ℕ} (cs : List (Call Act)) {h : History} {p : Port} → Tracks s₀ h p
     → run machine cs p .out ≡ ruleChanges s₀ h (p .clock) (run machine cs p .acts) (run machine cs p .port .clock)
 unfolding run ruleChanges
-run-told {s₀} [] {h} {p} k = sym (none-yet (ruleOctet s₀ h) (p .clock))
-run-told {s₀} (step g m ∷ cs) {h} {p} k =
+run-changes {s₀} [] {h} {p} k = sym (none-yet (ruleOctet s₀ h) (p .clock))
+run-changes {s₀} (step g m ∷ cs) {h} {p} k =
     let n : ℕ = elapsed machine (step g m) p in
     let q : Port = ticks machine n p in
     let r = run machine cs q in
-    (λ i. log-rule n k i ++ run-told cs (tracks-ticks n k) i)
+    (λ i. log-rule n k i ++ run-changes cs (tracks-ticks n k) i)
     ∙ ap (λ t. changes (ruleOctet s₀ h) (p .clock) n ++ ruleChanges s₀ h t (r .acts) (r .port .clock)) (clock-ticks machine n p)
-    ∙ sym (told-cut s₀ h (p .clock) n (r .acts) (r .port .clock)
-    (subst (λ t. From machine t (r .acts) (r .port .clock)) (clock-ticks machine n p) (run-from machine cs q)))
-run-told {s₀} (attempt a ∷ cs) {h} {p} k =
+    ∙ sym (ruleChanges-cut s₀ h (p .clock) n (r .acts) (r .port .clock)
+    (subst (λ t. Timely machine t (r .acts) (r .port .clock)) (clock-ticks machine n p) (run-timely machine cs q)))
+run-changes {s₀} (attempt a ∷ cs) {h} {p} k =
     cases (λ (r : Outcome Port ℕ Act). r .out ≡ ruleChanges s₀ h (p .clock) (r .acts) (r .port .clock)) (accepts a p) _ _
     (λ e. let r = run machine cs (perform a p) in
-    run-told cs (tracks-perform a e k)
+    run-changes cs (tracks-perform a e k)
     ∙ ap (λ t. ruleChanges s₀ ((p .clock, a) ∷ h) t (r .acts) (r .port .clock)) (clock-perform a p)
     ∙ ap (λ l. l ++ ruleChanges s₀ ((p .clock, a) ∷ h) (p .clock) (r .acts) (r .port .clock)) (sym (none-yet (ruleOctet s₀ h) (p .clock))))
-    (λ _. run-told cs k)
+    (λ _. run-changes cs k)

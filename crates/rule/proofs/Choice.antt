@@ -1,12 +1,12 @@
 -- Document 01, 'Choosing a frame': no frame is chosen exactly if no class qualifies, and the chosen class is the highest that does. In order: the highest
 -- class that passes a test; the same of the choice; the speeds and durations.
 -- Assumes nothing.
-use mathlib.Core.Path.{_≡_, refl, sym, _∙_}
+use mathlib.Core.Path.{_≡_, refl, sym, _∙_, subst⁻¹}
 use mathlib.Core.Logic.{_↔_}
 use mathlib.Core.Bool.{Bool, true, false, cond, true≢false}
 use mathlib.Core.List.{List}
 use mathlib.Core.Option.{Option, none, some}
-use Prim.Native.Nat.{ℕ, zero, suc, _+_, _≤_, _<_}
+use Prim.Native.Nat.{ℕ, zero, suc, _+_, _*_, _/_, _≤_, _<_}
 use native.Mathlib.Nat.{le-div-iff-mul-le}
 use native.Mathlib.Omega.{arith}
 use lib.Dec.{eqb}
@@ -67,19 +67,26 @@ module _ (heads : List ℕ) (speed t octet : ℕ) (g : ℕ → ℕ) where
       go (some f) h =
           (λ e. absurd (true≢false e), λ k. absurd (true≢false (sym (h .0 .1 .0) ∙ k (f .class) (h .0 .0))))
 
--- the speeds that are offered, and that a frame takes some time at each
-
-pub speed-range : (v : ℕ) → speedOffered v ≡ true → (10 ≤ v) × (v ≤ 1_000)
+-- what holds at each of the three speeds holds at every speed that is offered
+pub by-speed : (P : ℕ → Type 0) → P 10 → P 100 → P 1_000 → (v : ℕ) → speedOffered v ≡ true → P v
 unfolding speedOffered
-speed-range v h = go (eqb v 10) refl (eqb v 100) refl (eqb v 1_000) refl h
+by-speed P x y z v h = go (eqb v 10) refl (eqb v 100) refl (eqb v 1_000) refl h
   where
     go : (a : Bool) → eqb v 10 ≡ a → (b : Bool) → eqb v 100 ≡ b → (c : Bool) → eqb v 1_000 ≡ c
-        → cond a true (cond b true (cond c true false)) ≡ true → (10 ≤ v) × (v ≤ 1_000)
-    go true p b q c r h = (omega (arith, eqb-true), omega (arith, eqb-true))
-    go false p true q c r h = (omega (arith, eqb-true), omega (arith, eqb-true))
-    go false p false q true r h = (omega (arith, eqb-true), omega (arith, eqb-true))
+        → cond a true (cond b true (cond c true false)) ≡ true → P v
+    go true p b q c r h = subst⁻¹ P (eqb-true v 10 p) x
+    go false p true q c r h = subst⁻¹ P (eqb-true v 100 q) y
+    go false p false q true r h = subst⁻¹ P (eqb-true v 1_000 r) z
     go false p false q false r h = absurd (true≢false (sym h))
 
+pub speed-range : (v : ℕ) → speedOffered v ≡ true → (10 ≤ v) × (v ≤ 1_000)
+speed-range = by-speed (λ v. (10 ≤ v) × (v ≤ 1_000)) (omega arith, omega arith) (omega arith, omega arith) (omega arith, omega arith)
+
+-- a frame takes some time, and at the three speeds nothing is lost in the division
 pub duration-some : (n v : ℕ) → 0 < v → v ≤ 1_000 → 0 < duration n v
 unfolding duration
 duration-some n v p q = le-div-iff-mul-le p .1 (omega arith)
+
+pub duration-exact : (n v : ℕ) → speedOffered v ≡ true → duration n v * v ≡ (n + 8) * 8_000
+unfolding duration
+duration-exact n = by-speed (λ v. (n + 8) * 8_000 / v * v ≡ (n + 8) * 8_000) (omega arith) (omega arith) (omega arith)

@@ -1,4 +1,4 @@
--- What a call that is accepted has passed: none of the tests of its order holds. In order: one test; submit; transmit; a step's goal.
+-- What a call that is accepted has passed: none of the tests of its order holds. In order: one test; submit; transmit; a step's goal; new and look.
 -- Assumes nothing.
 use mathlib.Core.Path.{_≡_, refl, sym}
 use mathlib.Core.Bool.{Bool, true, false, cond, not, true≢false}
@@ -15,7 +15,7 @@ use Rattle.rule.specs.Refusals.{accepted}
 use Rattle.rule.specs.Cycle.{cycleOffered}
 use Rattle.rule.specs.Port.{Port}
 use Rattle.rule.specs.Acts.{Submission, isSome, submit, transmit}
-use Rattle.rule.specs.Orders.{any, lengthOffered, hasZeroInterval, speedOffered, headOffered, submitOrder, transmitOrder, stepOrder, accepts, acceptsGoal}
+use Rattle.rule.specs.Orders.{any, lengthOffered, hasZeroInterval, speedOffered, headOffered, submitOrder, transmitOrder, stepOrder, lookOrder, newOrder, accepts, acceptsGoal}
 
 passed : (b : Bool) (r : Refusal) (rest : Option Refusal) → accepted (cond b (some r) rest) ≡ true → (b ≡ false) × (accepted rest ≡ true)
 passed true r rest e = absurd (true≢false (sym e))
@@ -80,3 +80,13 @@ goal-passed goal p e =
       ahead = ltb-false goal (p .clock) (t₂ .0);
       short = ltb-false largestStep (goal - p .clock) (t₃ .0);
     }
+
+pub new-passed : (t : ℕ) → accepted (firstOf (newOrder t)) ≡ true → t ≤ largestInstant
+unfolding newOrder
+new-passed t e = ltb-false largestInstant t (passed (ltb largestInstant t) AboveLargest _ e .0)
+
+pub look-passed : (t : ℕ) (p : Port) → accepted (firstOf (lookOrder t p)) ≡ true → (t ≤ largestInstant) × (p .clock ≤ t)
+unfolding lookOrder
+look-passed t p e =
+    let t₁ = passed (ltb largestInstant t) AboveLargest _ e in
+    (ltb-false largestInstant t (t₁ .0), ltb-false t (p .clock) (passed (ltb t (p .clock)) BeforeClock _ (t₁ .1) .0))

@@ -11,7 +11,7 @@ use borrow.Author.Tests.{ltb-false, not-false}
 use Rattle.rule.specs.Limits.{largestInstant, largestStep}
 use Rattle.rule.specs.declared.Refusal.{Refusal}
 use Rattle.rule.specs.declared.Refusal.the-variants.{ZeroInterval, ListLength, SwitchedOff, ChangeWaits, CycleTime, AboveLargest, BeforeClock, StepTooLong, HeadLength, Speed, FrameSending}
-use Rattle.rule.specs.Refusals.{accepted}
+use Rattle.rule.specs.Refusals.{firstOf, accepted}
 use Rattle.rule.specs.Cycle.{cycleOffered}
 use Rattle.rule.specs.Port.{Port}
 use Rattle.rule.specs.Acts.{Submission, isSome, submit, transmit}

@@ -2,7 +2,7 @@
 -- laws again. Then what follows from them: the running cycle, the last old cycle (8.6.9.1.1), the change instant (8.6.9.3.1). The forms that a program
 -- computes are in `ClosedForms`.
 -- Assumes nothing.
-use mathlib.Core.Path.{_≡_, refl}
+use mathlib.Core.Path.{_≡_, refl, ap}
 use mathlib.Core.Logic.{_↔_}
 use mathlib.Core.Bool.{Bool, true, false, cond}
 use Prim.Native.Nat.{ℕ, zero, suc, _+_, _-_, _≤_, _<_}
@@ -52,6 +52,17 @@ module _ (f : Config) (pos : Valid f) where
       let a : cycleNo f t ≤ cycleNo f u = cycle-no (cycleNo f t) u s .1 l in
       let b : cycleNo f u < suc (cycleNo f t) = lt-of-not-le (λ e. not-le-of-lt r (cycle-no (suc (cycleNo f t)) u s .0 e)) in
       omega arith
+
+  -- the cycle that a start begins is its own
+  pub start-own : (k : ℕ) → plainStart f (startNo f k) ≡ startNo f k
+  unfolding plainStart
+  start-own k =
+      let h : f .start ≤ startNo f k = start-le k in
+      let a : k ≤ cycleNo f (startNo f k) = cycle-no k (startNo f k) h .1 (omega arith) in
+      let m : startNo f k < startNo f (suc k) = start-mono (omega arith) in
+      let b : cycleNo f (startNo f k) < suc k = lt-of-not-le (λ e. not-le-of-lt m (cycle-no (suc k) (startNo f k) h .0 e)) in
+      let e : cycleNo f (startNo f k) ≡ k = omega arith in
+      ap (startNo f) e
 
   pub first-no : (x k : ℕ) → (firstNo f x ≤ k) ↔ (x ≤ startNo f k)
   unfolding firstNo

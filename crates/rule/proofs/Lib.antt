@@ -13,5 +13,6 @@ pub mod Stretch
 pub mod Overrun
 pub mod Demand3
 pub mod Regime
+pub mod Walk
 pub mod Sound
 pub mod Cases

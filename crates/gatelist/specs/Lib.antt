@@ -1,0 +1,5 @@
+pub mod Coding
+pub mod Sound
+pub mod Lookup
+pub mod Octets
+pub mod Parts

@@ -1,0 +1,292 @@
+// The gate control list of a port: its record of 128 places, the checks of a record, the entry at an offset of the cycle, one class's gate, and the list's
+// octets, read and written. Every function takes any record, any octets, any buffer. A refused reading hands back the list of all zeros; a refused writing
+// leaves the buffer as it was.
+ghost use mathlib.Core.Path.{_≡_};
+ghost use Prim.Native.Nat.{_<_, min};
+ghost use lib.ListN.{length};
+ghost use Rattle.rule.specs.Gates.{isOpen};
+ghost use Rattle.rule.specs.Orders.{hasZeroInterval};
+ghost use Rattle.gatelist.specs.Coding.{listOf, emptyList, cleanedList};
+ghost use Rattle.gatelist.specs.Sound.{everyBelow, placeOk, usedOk, listOk, listNone, Checked};
+ghost use Rattle.gatelist.specs.Lookup.{placeAt, IntervalAt};
+ghost use Rattle.gatelist.specs.Octets.{readList, readingOf, writeList, writingOf};
+use rule::Refusal;
+
+mod entry;
+
+use entry::EntryRead;
+
+// A list: entry k has the gate octet octets[k] and the interval intervals[k] in nanoseconds, for k below len. The other places are unused.
+#[repr(C)]
+pub struct GateList {
+    pub octets: [u8; 128],
+    pub intervals: [u32; 128],
+    pub len: usize,
+}
+
+// An entry of a list, counted from 0, and the stretch of offsets that it covers: from start to before end.
+#[repr(C)]
+pub struct Place {
+    pub number: usize,
+    pub start: u64,
+    pub end: u64,
+}
+
+// What reading answers: the list is taken, or the refusal and the place of the octet that it concerns.
+pub enum ReadAnswer {
+    Accepted,
+    Declined(Refusal, usize),
+}
+
+// What reading hands back. Of a refused reading the list is all zeros.
+pub struct ListRead {
+    pub answer: ReadAnswer,
+    pub list: GateList,
+}
+
+// What writing answers: how many octets it wrote, or the refusal.
+pub enum Written {
+    Octets(usize),
+    Unwritten(Refusal),
+}
+
+// An interval as a time.
+fn wide(x: u32) -> u64
+    ensures { λ r. ⌜ (r ≡ x) × (r < 4294967296) ⌝ }
+{
+    x as u64
+}
+
+// The lower of a length and 128.
+fn at_most_max(n: usize) -> usize
+    ensures { λ r. ⌜ r ≡ min n 128 ⌝ }
+{
+    if n <= GateList::MAX { n } else { GateList::MAX }
+}
+
+// Every used interval is not 0, and every unused place is 0 in both arrays. The count k goes beside the index in 32 bits: as wide as an interval, it is
+// compared with the length as many places at a time.
+fn places_ok<'a>(octets: &'a [u8; 128], intervals: &'a [u32; 128], len: usize) -> bool
+    ensures { λ r. ⌜ r ≡ everyBelow (placeOk (now (octets .entry)) (now (intervals .entry)) len) 128 ⌝ }
+{
+    let n = at_most_max(len) as u32;
+    let mut good = true;
+    let mut k: u32 = 0;
+    for i in 0..GateList::MAX {
+        let o = octets[i];
+        let v = intervals[i];
+        let used = k < n;
+        good = good & ((used & (v != 0)) | (!used & ((v == 0) & (o == 0))));
+        k = k + 1;
+    }
+    good
+}
+
+// No used interval is 0, as far as the 128 places go. The count is as in `places_ok`.
+fn intervals_ok(intervals: &[u32; 128], len: usize) -> bool
+    ensures { λ r. ⌜ r ≡ everyBelow (usedOk (now (intervals .entry)) len) 128 ⌝ }
+{
+    let n = at_most_max(len) as u32;
+    let mut good = true;
+    let mut k: u32 = 0;
+    for i in 0..GateList::MAX {
+        let v = intervals[i];
+        good = good & !((k < n) & (v == 0));
+        k = k + 1;
+    }
+    good
+}
+
+impl GateList {
+    // The places of a list record, SupportedListMax.
+    pub const MAX: usize = 128;
+
+    // The list of all zeros.
+    pub fn empty() -> Self
+        ensures { λ r. ⌜ r ≡ emptyList ⌝ }
+    {
+        Self {
+            octets: [0u8; 128],
+            intervals: [0u32; 128],
+            len: 0,
+        }
+    }
+
+    // A well-formed present list: 1 to 128 entries, used intervals not 0, unused places 0.
+    pub fn ok(self) -> bool
+        ensures { λ r. ⌜ Checked self r (listOk self) ⌝ }
+    {
+        let n = self.len;
+        let good = places_ok(&self.octets, &self.intervals, n);
+        (1 <= n) & (n <= GateList::MAX) & good
+    }
+
+    // An absent list: all zeros.
+    pub fn none(self) -> bool
+        ensures { λ r. ⌜ Checked self r (listNone self) ⌝ }
+    {
+        let n = self.len;
+        let good = places_ok(&self.octets, &self.intervals, n);
+        (n == 0) & good
+    }
+
+    // A used interval is 0. A place beyond the 128 counts as 0.
+    pub fn has_zero(self) -> bool
+        ensures { λ r. ⌜ r ≡ hasZeroInterval (listOf self) ⌝ }
+    {
+        let n = self.len;
+        let good = intervals_ok(&self.intervals, n);
+        !((n <= GateList::MAX) & good)
+    }
+
+    // The same list, with its unused places set to zero.
+    pub fn cleaned(self) -> GateList
+        ensures { λ r. ⌜ r ≡ cleanedList self ⌝ }
+    {
+        let n = self.len;
+        let o = self.octets;
+        let v = self.intervals;
+        let used = at_most_max(n);
+        let mut octets = [0u8; 128];
+        let mut intervals = [0u32; 128];
+        for i in 0..used {
+            octets[i] = o[i];
+            intervals[i] = v[i];
+        }
+        GateList {
+            octets,
+            intervals,
+            len: n,
+        }
+    }
+}
+
+// One class's gate in an octet: class 7 is the most significant bit, 1 is open. There is no gate of a class above 7: closed.
+pub fn gate(octet: u8, class: u8) -> bool
+    ensures { λ r. ⌜ r ≡ isOpen octet class ⌝ }
+{
+    if 7 < class {
+        return false;
+    }
+    (octet >> class) & 1 == 1
+}
+
+// What the type says of an array: it has 128 places. Nothing is computed.
+fn sized(a: [u32; 128])
+    ensures { λ _. ⌜ length a ≡ 128 ⌝ }
+{}
+
+// The interval at a place; a place beyond the 128 has 0.
+fn interval_at(intervals: &[u32; 128], i: usize) -> u64
+    ensures { λ r. ⌜ IntervalAt (now (intervals .entry)) i r ⌝ }
+{
+    sized(*intervals);
+    if GateList::MAX <= i {
+        return 0;
+    }
+    wide(intervals[i])
+}
+
+// The entry of a list of len intervals whose stretch contains an offset: the first whose end lies past it, or else the last.
+pub fn entry_at(intervals: &[u32; 128], len: usize, offset: u64) -> Place
+    ensures { λ r. ⌜ r ≡ placeAt (now (intervals .entry)) len offset ⌝ }
+{
+    let mut start: u64 = 0;
+    let mut i: usize = 0;
+    let number = loop {
+        if len <= i + 1 {
+            break i;
+        }
+        if i == GateList::MAX {
+            break len - 1;
+        }
+        let end = start + wide(intervals[i]);
+        if offset < end {
+            break i;
+        }
+        start = end;
+        i = i + 1;
+    };
+    let end = start + interval_at(intervals, number);
+    Place { number, start, end }
+}
+
+// A refused reading.
+fn declined(r: Refusal, place: usize) -> ListRead
+    ensures { λ x. ⌜ x ≡ record { answer = ReadAnswer.Declined r place; list = emptyList } ⌝ }
+{
+    ListRead {
+        answer: ReadAnswer::Declined(r, place),
+        list: GateList::empty(),
+    }
+}
+
+// Reads a list of the stated length from its octets.
+pub fn read(octets: &[u8], stated: u64) -> ListRead
+    ensures { λ r. ⌜ readingOf r ≡ readList (now (octets .entry)) stated ⌝ }
+{
+    if stated < 1 {
+        return declined(Refusal::ListLength, 0);
+    }
+    if (GateList::MAX as u64) < stated {
+        return declined(Refusal::ListLength, 0);
+    }
+    let n = stated as usize;
+    let mut gates = [0u8; 128];
+    let mut intervals = [0u32; 128];
+    let mut i: usize = 0;
+    while i < n {
+        let at = 7 * i;
+        match entry::read_entry(octets, at) {
+            EntryRead::Good(o, v) => {
+                gates[i] = o;
+                intervals[i] = v;
+            }
+            EntryRead::Bad(r) => {
+                return declined(r, at);
+            }
+        }
+        i = i + 1;
+    }
+    let end = 7 * n;
+    if end < octets.len() {
+        return declined(Refusal::ListLength, end);
+    }
+    ListRead {
+        answer: ReadAnswer::Accepted,
+        list: GateList {
+            octets: gates,
+            intervals,
+            len: n,
+        },
+    }
+}
+
+impl GateList {
+    // Writes the list's octets to the front of a buffer. A refusal leaves the buffer as it was.
+    pub fn write(self, buffer: &mut [u8]) -> Written
+        ensures { λ r. ⌜ writingOf r (now (buffer .exit)) ≡ writeList self (now (buffer .entry)) ⌝ }
+    {
+        let n = self.len;
+        let o = self.octets;
+        let v = self.intervals;
+        if n < 1 {
+            return Written::Unwritten(Refusal::ListLength);
+        }
+        if GateList::MAX < n {
+            return Written::Unwritten(Refusal::ListLength);
+        }
+        if !intervals_ok(&v, n) {
+            return Written::Unwritten(Refusal::ZeroInterval);
+        }
+        let count = 7 * n;
+        if buffer.len() < count {
+            return Written::Unwritten(Refusal::BufferShort);
+        }
+        for i in 0..n {
+            let at = 7 * i;
+            entry::write_entry(&mut buffer[at..], o[i], v[i]);
+        }
+        Written::Octets(count)
+    }
+}

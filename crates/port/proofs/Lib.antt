@@ -1,0 +1,15 @@
+pub mod Coding
+pub mod Spans
+pub mod Overruns
+pub mod Performing
+pub mod Looking
+pub mod Submitting
+pub mod Carried
+pub mod Unique
+pub mod Walking
+pub mod Pointing
+pub mod Stretching
+pub mod Spanning
+pub mod Meeting
+pub mod Moving
+pub mod Stepping

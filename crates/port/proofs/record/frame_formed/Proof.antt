@@ -1,0 +1,16 @@
+-- `port::record::frame_formed` meets its contract: its tests are those of the definition, in the same order.
+-- Assumes nothing.
+use borrow.Author.Needs.{needs}
+use Rattle.port.specs.Record.{frameFormed, frameOk, frameNone}
+use Rattle.port.proofs.record.frame_formed.Statement.{statement}
+use Rattle.port.proofs.record.frame_formed.Tie as tie
+
+minus-requires : tie.Need-minus-requires
+minus-requires c κs = search needs
+
+returns : tie.Need-returns
+unfolding frameFormed frameOk frameNone
+returns c = cc
+
+pub frame-formed-spec : {M : Type 1} → statement M
+frame-formed-spec = tie.close (tie.spec minus-requires returns)

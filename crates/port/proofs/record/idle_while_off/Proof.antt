@@ -1,0 +1,13 @@
+-- `port::record::idle_while_off` meets its contract: its tests are those of the definition, in the same order.
+-- Assumes nothing.
+use borrow.Author.Needs.{needs}
+use Rattle.port.specs.Record.{idleWhileOff}
+use Rattle.port.proofs.record.idle_while_off.Statement.{statement}
+use Rattle.port.proofs.record.idle_while_off.Tie as tie
+
+returns : tie.Need-returns
+unfolding idleWhileOff
+returns c = search needs
+
+pub idle-while-off-spec : {M : Type 1} → statement M
+idle-while-off-spec = tie.close (tie.spec returns)

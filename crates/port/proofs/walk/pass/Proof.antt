@@ -1,0 +1,74 @@
+-- `pass` meets its contract: nothing changes, or a change finds no room in one of the buffers, or is written in both.
+-- Assumes nothing.
+use borrow.Author.Needs.{needs}
+use native.Mathlib.Omega.{arith}
+use Rattle.port.proofs.Walking.{passes-same, passes-full, passes-more}
+use Rattle.port.proofs.walk.pass.Statement.{statement}
+use Rattle.port.proofs.walk.pass.Tie as tie
+use Rattle.port.proofs.walk.pass.Reads as reads
+use Rattle.port.proofs.walk.pass.Lts as lts
+
+sub-t10 : tie.Need-sub-t10
+sub-t10 c = search needs
+
+returns : tie.Need-returns
+returns c = let a = c .before .args in
+    passes-same (a .octet) (a .from) (a .until) (a .w) (a .instants .now) (a .octets .now) (omega arith) (omega arith) (c .if1 .taken)
+
+sub-t12 : tie.Need-sub-t12
+sub-t12 c = search needs
+
+returns-2 : tie.Need-returns-2
+returns-2 c = let a = c .before .before .args in
+    passes-full (a .octet) (a .from) (a .until) (a .w) (a .instants .now) (a .octets .now) (omega arith) (omega arith) (c .before .if1 .left) (omega arith)
+
+sub-t13 : tie.Need-sub-t13
+sub-t13 c = search needs
+
+returns-3 : tie.Need-returns-3
+returns-3 c = let a = c .before .before .before .args in
+    passes-full (a .octet) (a .from) (a .until) (a .w) (a .instants .now) (a .octets .now) (omega arith) (omega arith) (c .before .before .if1 .left) (omega arith)
+
+mul-instants : tie.Need-mul-instants
+mul-instants c = search needs
+
+slice-write-instants : tie.Need-slice-write-instants
+slice-write-instants c = search needs
+
+slice-write-octets : tie.Need-slice-write-octets
+slice-write-octets c = search needs
+
+sub-t16 : tie.Need-sub-t16
+sub-t16 c = search needs
+
+add-t11 : tie.Need-add-t11
+add-t11 c = search needs
+
+same-length : tie.Need-same-length
+same-length c = search needs
+
+same-length-2 : tie.Need-same-length-2
+same-length-2 c = search needs
+
+returns-4 : tie.Need-returns-4
+returns-4 c = let a = c .before .before .before .args in
+    passes-more (a .octet) (a .from) (a .until) (a .w) (a .instants .now) (a .octets .now) (omega arith) (omega arith) (c .before .before .if1 .left) (omega arith)
+
+pub pass-spec : {M : Type 1} → statement M
+pass-spec =
+    tie.close
+    (tie.spec
+    sub-t10
+    returns
+    sub-t12
+    returns-2
+    sub-t13
+    returns-3
+    mul-instants
+    slice-write-instants
+    slice-write-octets
+    sub-t16
+    add-t11
+    same-length
+    same-length-2
+    returns-4)

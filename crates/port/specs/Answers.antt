@@ -1,0 +1,55 @@
+-- Document 01, 'Numbers returned when a call declines': what each kind of call of a port answers, from the refusal that its order chooses, and the
+-- number of each answer. No two answers of a kind have the same number and values (proofs/Unique).
+-- Assumes nothing.
+use mathlib.Core.Option.{Option, none, some}
+use Prim.Native.Nat.{ℕ}
+use Rattle.rule.specs.declared.Refusal.{Refusal}
+use Rattle.rule.specs.Refusals.{numberOf}
+use Rattle.port.specs.declared.Port.{Port}
+use Rattle.port.specs.declared.Acted.{Acted}
+use Rattle.port.specs.declared.Answer.{Answer}
+use Rattle.port.specs.declared.Looked.{Looked}
+use Rattle.port.specs.declared.Answer.the-variants as answer
+use Rattle.port.specs.declared.Looked.the-variants as looked
+use Rattle.port.specs.declared.StepAnswer.{StepAnswer}
+use Rattle.port.specs.declared.StepAnswer.the-variants as stepped
+
+-- an act is done, or refused
+abbrev pub answerOf : Option Refusal → Answer
+answerOf none = answer.Done
+answerOf (some r) = answer.Refused r
+
+-- with the port that is handed back
+abbrev pub doneWith : Port → Acted
+doneWith p = record { answer = answer.Done; port = p }
+
+abbrev pub refusedWith : Refusal → Port → Acted
+refusedWith r p = record { answer = answer.Refused r; port = p }
+
+-- a look gives an octet, or is refused
+abbrev pub lookedOf : Option Refusal → ℕ → Looked
+lookedOf none octet = looked.Octet octet
+lookedOf (some r) octet = looked.Refused r
+
+-- document 01's numbers: none for an accepted call
+abbrev pub answerNumber : Answer → Option ℕ
+answerNumber answer.Done = none
+answerNumber (answer.Refused r) = some (numberOf r)
+
+abbrev pub lookedNumber : Looked → Option ℕ
+lookedNumber (looked.Octet octet) = none
+lookedNumber (looked.Refused r) = some (numberOf r)
+
+-- the octet of a look, 0 if it is refused
+abbrev pub lookedOctet : Looked → ℕ
+lookedOctet (looked.Octet octet) = octet
+lookedOctet (looked.Refused r) = 0
+
+-- a step gives the number of changes written, or is refused
+abbrev pub steppedOf : Option Refusal → ℕ → StepAnswer
+steppedOf none n = stepped.Written n
+steppedOf (some r) n = stepped.Refused r
+
+abbrev pub steppedNumber : StepAnswer → Option ℕ
+steppedNumber (stepped.Written n) = none
+steppedNumber (stepped.Refused r) = some (numberOf r)

@@ -1,0 +1,11 @@
+pub mod Record
+pub mod Coding
+pub mod Answers
+pub mod Acts
+pub mod Updates
+pub mod Regime
+pub mod Submit
+pub mod Walk
+pub mod Cursor
+pub mod Stretch
+pub mod Step

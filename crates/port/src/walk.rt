@@ -1,0 +1,314 @@
+// The walk of a step.
+ghost use mathlib.Core.Path.{_≡_};
+ghost use mathlib.Core.Bool.{true};
+ghost use Prim.Native.Nat.{_<_, _≤_, _-_, _+_, min};
+ghost use lib.ListN.{length, getD};
+ghost use Rattle.rule.specs.Limits.{largestInstant};
+ghost use Rattle.rule.specs.Port.{shown};
+ghost use Rattle.port.specs.Coding.{decode, Fine};
+ghost use Rattle.port.specs.Walk.{Passes, Walks, journeyOf, Ahead, WalksSpan};
+ghost use Rattle.port.specs.Cursor.{Enters, Placed, Onward, Advances};
+ghost use Rattle.port.specs.Stretch.{Spanned, WalksList, Uniform};
+use crate::Port;
+use crate::numbers::least;
+use crate::numbers::wide;
+use crate::regime::Span;
+use crate::regime::regime;
+use crate::regime::times_of;
+
+// How far a walk has come: the instant up to which every change is written, the octet shown there, how many are written; or that the next
+// change finds no room.
+pub struct Walk {
+    pub at: u64,
+    pub octet: u8,
+    pub written: usize,
+    pub full: bool,
+}
+
+// The octet is shown from an instant to before another: a change, if it differs from what was shown before.
+fn pass(octet: u8, from: u64, until: u64, w: Walk, instants: &mut [u64], octets: &mut [u8]) -> Walk
+    requires { ⌜ (1 ≤ from) × (from < until) ⌝ }
+    ensures { λ r. ⌜ Passes octet from until w (now (instants .entry)) (now (octets .entry)) r (now (instants .exit)) (now (octets .exit)) ⌝ }
+{
+    let n = w.written;
+    let o = w.octet;
+    if octet == o {
+        return Walk {
+            at: until - 1,
+            octet,
+            written: n,
+            full: false,
+        };
+    }
+    if instants.len() <= n {
+        return Walk {
+            at: from - 1,
+            octet: o,
+            written: n,
+            full: true,
+        };
+    }
+    if octets.len() <= n {
+        return Walk {
+            at: from - 1,
+            octet: o,
+            written: n,
+            full: true,
+        };
+    }
+    instants[n] = from;
+    octets[n] = octet;
+    Walk {
+        at: until - 1,
+        octet,
+        written: n + 1,
+        full: false,
+    }
+}
+
+// An entry of a running cycle: its place, the instant from which it is looked at, where it stops, and where the next cycle starts.
+struct Cursor {
+    place: usize,
+    from: u64,
+    stop: u64,
+    next: u64,
+}
+
+// The entry at a place, which begins at an instant.
+fn entry_from(intervals: &[u32; 128], len: usize, place: usize, from: u64, next: u64) -> Cursor
+    requires { ⌜ (place < len) × ((len ≤ 128) × ((from < next) × (from ≤ 9000000001000000000))) ⌝ }
+    requires { ⌜ 0 < getD (now intervals) place 0 ⌝ }
+    ensures { λ r. ⌜ Enters (now (intervals .entry)) len place from next r ⌝ }
+{
+    if len <= place + 1 {
+        return Cursor {
+            place,
+            from,
+            stop: next,
+            next,
+        };
+    }
+    let end = from + wide(intervals[place]);
+    if next <= end {
+        return Cursor {
+            place,
+            from,
+            stop: next,
+            next,
+        };
+    }
+    Cursor {
+        place,
+        from,
+        stop: end,
+        next,
+    }
+}
+
+// The entry that an offset of a running cycle falls into.
+fn cursor_at(intervals: &[u32; 128], len: usize, period: u64, base: u64, from: u64) -> Cursor
+    requires { ⌜ (1 ≤ len) × ((base ≤ from) × ((from < base + period) × (base + period < 18446744073709551616))) ⌝ }
+    ensures { λ r. ⌜ (r .from ≡ from) × Placed (now (intervals .entry)) len base (base + period) r ⌝ }
+{
+    let p = gatelist::entry_at(intervals, len, from - base);
+    let place = p.number;
+    let end = p.end;
+    let next = base + period;
+    if len - 1 <= place {
+        return Cursor {
+            place,
+            from,
+            stop: next,
+            next,
+        };
+    }
+    if period <= end {
+        return Cursor {
+            place,
+            from,
+            stop: next,
+            next,
+        };
+    }
+    Cursor {
+        place,
+        from,
+        stop: base + end,
+        next,
+    }
+}
+
+// The entry after a cursor's: in the same cycle, or the first of the next.
+fn advance(intervals: &[u32; 128], len: usize, period: u64, c: Cursor) -> Cursor
+    requires { ⌜ Onward (now intervals) len period c ⌝ }
+    ensures { λ r. ⌜ Advances (now (intervals .entry)) len period c r ⌝ }
+{
+    let stop = c.stop;
+    let next = c.next;
+    let place = c.place;
+    if next <= stop {
+        return entry_from(intervals, len, 0, next, next + period);
+    }
+    entry_from(intervals, len, place + 1, stop, next)
+}
+
+// A stretch in which one list rules: its cycles take a period, one of them has begun at base and runs at the instant from, and so it goes on to before
+// the edge.
+struct Stretch {
+    len: usize,
+    period: u64,
+    base: u64,
+    from: u64,
+    edge: u64,
+}
+
+// Walks a stretch entry by entry.
+fn walk_list<'a>(
+    octets: &'a [u8; 128],
+    intervals: &'a [u32; 128],
+    s: Stretch,
+    before: Walk,
+    instants: &mut [u64],
+    changed: &mut [u8],
+) -> Walk
+    requires { ⌜ Spanned (now intervals) s ⌝ }
+    ensures { λ r. ⌜ WalksList (now (octets .entry)) (now (intervals .entry)) s before (now (instants .entry)) (now (changed .entry)) r (now (instants .exit)) (now (changed .exit)) ⌝ }
+{
+    let len = s.len;
+    let period = s.period;
+    let edge = s.edge;
+    let mut c = cursor_at(intervals, len, period, s.base, s.from);
+    let mut w = before;
+    loop {
+        let until = least(c.stop, edge);
+        let place = c.place;
+        w = pass(octets[place], c.from, until, w, instants, changed);
+        if w.full {
+            return w;
+        }
+        if edge <= c.stop {
+            return w;
+        }
+        c = advance(intervals, len, period, c);
+    }
+}
+
+// Whether a list shows one octet all through a cycle of a period. If so, its cycles need no walk.
+fn uniform<'a>(octets: &'a [u8; 128], intervals: &'a [u32; 128], len: usize, period: u64) -> bool
+    requires { ⌜ (1 ≤ len) × (len ≤ 128) ⌝ }
+    ensures { λ r. ⌜ (r ≡ true → Uniform (now (octets .entry)) (now (intervals .entry)) len period) ⌝ }
+{
+    let first = octets[0];
+    let mut sum: u64 = 0;
+    let mut i: usize = 0;
+    while i + 1 < len {
+        sum += wide(intervals[i]);
+        if period <= sum {
+            return true;
+        }
+        i += 1;
+        if octets[i] != first {
+            return false;
+        }
+    }
+    true
+}
+
+// Walks a stretch in which a list rules; one octet all through its cycles is passed at once, however many they are.
+fn walk_ruled<'a>(
+    octets: &'a [u8; 128],
+    intervals: &'a [u32; 128],
+    s: Stretch,
+    before: Walk,
+    instants: &mut [u64],
+    changed: &mut [u8],
+) -> Walk
+    requires { ⌜ Spanned (now intervals) s ⌝ }
+    ensures { λ r. ⌜ WalksList (now (octets .entry)) (now (intervals .entry)) s before (now (instants .entry)) (now (changed .entry)) r (now (instants .exit)) (now (changed .exit)) ⌝ }
+{
+    if uniform(octets, intervals, s.len, s.period) {
+        return pass(octets[0], s.from, s.edge, before, instants, changed);
+    }
+    walk_list(octets, intervals, s, before, instants, changed)
+}
+
+// Walks a span of a port from t on: the standing octet, or one of the port's two lists.
+fn walk_span(
+    p: Port,
+    span: Span,
+    t: u64,
+    before: Walk,
+    instants: &mut [u64],
+    changed: &mut [u8],
+) -> Walk
+    requires { ⌜ Fine p ⌝ }
+    requires { ⌜ Ahead p t span ⌝ }
+    ensures { λ r. ⌜ WalksSpan p span t before (now (instants .entry)) (now (changed .entry)) r (now (instants .exit)) (now (changed .exit)) ⌝ }
+{
+    let period = span.period;
+    let base = span.start;
+    let edge = span.edge;
+    if span.flat {
+        return pass(p.standing, t, edge, before, instants, changed);
+    }
+    if span.new {
+        let len = p.waiting.config.list.len;
+        let s = Stretch {
+            len,
+            period,
+            base,
+            from: t,
+            edge,
+        };
+        return walk_ruled(
+            &p.waiting.config.list.octets,
+            &p.waiting.config.list.intervals,
+            s,
+            before,
+            instants,
+            changed,
+        );
+    }
+    let len = p.operating.list.len;
+    let s = Stretch {
+        len,
+        period,
+        base,
+        from: t,
+        edge,
+    };
+    walk_ruled(
+        &p.operating.list.octets,
+        &p.operating.list.intervals,
+        s,
+        before,
+        instants,
+        changed,
+    )
+}
+
+// Walks from the clock, where an octet is shown, to a goal, and writes each change; or to 1 ns before the first change that has no room.
+pub fn walk_port(p: Port, octet: u8, goal: u64, instants: &mut [u64], changed: &mut [u8]) -> Walk
+    requires { ⌜ Fine p ⌝ }
+    requires { ⌜ (octet ≡ shown (decode p) (p .clock)) × ((p .clock ≤ goal) × (goal ≤ largestInstant)) ⌝ }
+    ensures { λ r. ⌜ Walks (journeyOf p goal (now (instants .entry)) (now (changed .entry))) (r .at) (r .written) (now (instants .exit)) (now (changed .exit)) ⌝ }
+{
+    let x = times_of(p);
+    let clock = p.clock;
+    let mut t = clock + 1;
+    let mut w = Walk {
+        at: clock,
+        octet,
+        written: 0,
+        full: false,
+    };
+    while t <= goal {
+        let span = regime(x, t, goal + 1);
+        w = walk_span(p, span, t, w, instants, changed);
+        if w.full {
+            return w;
+        }
+        t = span.edge;
+    }
+    w
+}

@@ -4,7 +4,6 @@ pub mod Lookup
 pub mod Gates
 pub mod Reading
 pub mod Writing
-pub mod Numbers
 pub mod Words
 pub mod RoundTrip
 pub mod Unique

@@ -22,9 +22,10 @@ use Rattle.gatelist.specs.declared.GateList.{GateList}
 use Rattle.gatelist.specs.Coding.{listFrom, entryOf, listOf, encodeList, cleanedList, Places}
 use Rattle.gatelist.specs.Octets.{entryOctets, octetsOf, intervalAt, entryAt, entryOrder, refusedAt, refusalFrom, readRefusal, reading, readList, writeOrder, writing, Writing, writeList}
 use Rattle.gatelist.proofs.Words.{octets-word, word-octets}
-use Rattle.gatelist.proofs.Numbers.{number-some}
+use Rattle.rule.proofs.Refusals.{number-some}
 use Rattle.gatelist.proofs.Coding.{length-from, from-add, list-decoded, encoded-from, cleaned-encoded}
-use Rattle.gatelist.proofs.Sound.{both, zero-free, free-zero}
+use Rattle.gatelist.proofs.Sound.{zero-free, free-zero}
+use Rattle.rule.proofs.Orders.{both}
 use Rattle.gatelist.proofs.Reading.{refusal-start}
 use Rattle.gatelist.proofs.Writing.{octets-append, length-octets, order-passed}
 

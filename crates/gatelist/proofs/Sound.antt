@@ -13,6 +13,7 @@ use lib.Dec.{leb, ltb, eqb}
 use lib.ListN.{length, getD, take, List·getD-eq-default, length-map}
 use borrow.Author.Tests.{lt-ltb, le-ltb, ltb-true, ltb-false, le-leb, leb-true, eq-eqb, ne-eqb, eqb-true, eqb-false, not-false}
 use Rattle.rule.specs.Entries.{Entry}
+use Rattle.rule.proofs.Orders.{both}
 use Rattle.rule.specs.Orders.{lengthOffered, hasZeroInterval}
 use Rattle.gatelist.specs.declared.GateList.{GateList}
 use Rattle.gatelist.specs.Coding.{listFrom, entryOf, listOf, padded, encodeList, emptyList, cleanedList, Places}
@@ -20,10 +21,6 @@ use Rattle.gatelist.specs.Sound.{everyBelow, placeOk, placesOk, listOk, 
 use Rattle.gatelist.proofs.Coding.{list-decoded, padded-out, cleaned-encoded, cleaned-same}
 
 -- tests
-
-pub both : (a b : Bool) → a && b ≡ true → (a ≡ true) × (b ≡ true)
-both true b e = (refl, e)
-both false b e = absurd (true≢false (sym e))
 
 neither : (a b : Bool) → cond a true b ≡ false → (a ≡ false) × (b ≡ false)
 neither true b e = absurd (true≢false e)

@@ -18,7 +18,7 @@ use Rattle.gatelist.specs.Coding.{listOf, emptyList, cleanedList}
 use Rattle.gatelist.specs.Sound.{listOk, listNone, Checked}
 use Rattle.gatelist.specs.Lookup.{placeAt}
 use Rattle.gatelist.specs.Octets.{Reading, answered, readingOf, readList, Writing, writingOf, writeList}
-use Rattle.gatelist.proofs.Numbers.{number-same, number-some}
+use Rattle.rule.proofs.Refusals.{number-same, number-some}
 
 -- contracts that name the result
 

@@ -15,7 +15,8 @@ use Rattle.rule.specs.Cycle as cycle
 use Rattle.rule.specs.Port as model
 use Rattle.gatelist.specs.Coding.{entryOf, Places}
 use Rattle.gatelist.proofs.Coding.{length-from, list-decoded}
-use Rattle.gatelist.proofs.Sound.{both, list-used, list-free, list-encoded, list-empty, encoded-ok, empty-none}
+use Rattle.rule.proofs.Orders.{both}
+use Rattle.gatelist.proofs.Sound.{list-used, list-free, list-encoded, list-empty, encoded-ok, empty-none}
 use Rattle.port.specs.declared.Config.{Config}
 use Rattle.port.specs.declared.Waiting.{Waiting}
 use Rattle.port.specs.declared.Frame.{Frame}

@@ -23,7 +23,7 @@ use Rattle.rule.proofs.Sound.{cycle-range}
 use Rattle.gatelist.specs.declared.GateList.{GateList}
 use Rattle.gatelist.specs.Coding.{entryOf, listOf, encodeList}
 use Rattle.gatelist.proofs.Coding.{length-from}
-use Rattle.gatelist.proofs.Sound.{both}
+use Rattle.rule.proofs.Orders.{both}
 use Rattle.port.specs.declared.Config.{Config}
 use Rattle.port.specs.declared.Port.{Port}
 use Rattle.port.specs.declared.Answer.{Answer}

@@ -1,22 +1,25 @@
 -- Each contract of a public call leaves one outcome: two outcomes that it allows for one input are equal. `on`, `off`, `standing` and `submit` have the
--- contract `Performs`, `look` has `Looks`, `new` has `Makes`. No call lends memory. And document 01's number, with the octet of a look, tells an answer
--- from every other of its kind (`answer-told`, `looked-told`).
+-- contract `Performs`, `step` has `Steps`, `look` has `Looks`, `new` has `Makes`. Only a step lends memory: its two buffers. And document 01's number,
+-- with the value of an accepted call, tells an answer from every other of its kind (`answer-told`, `stepped-told`, `looked-told`).
 -- Assumes nothing.
 use mathlib.Core.Path.{_≡_, refl, ap, sym, _∙_}
-use mathlib.Core.List.{[], _∷_}
+use mathlib.Core.List.{List}
 use mathlib.Core.Option.{none, some}
 use Prim.Native.Nat.{ℕ}
 use native.Mathlib.Omega.{arith}
-use lib.ListN.{getD}
 use Rattle.rule.specs.declared.Refusal.{Refusal}
-use Rattle.rule.specs.declared.Refusal.the-variants.{CutShort, Operation, LengthOctet, ZeroInterval, ListLength, SwitchedOff, ChangeWaits, CycleTime, AboveLargest, BeforeClock, StepTooLong, HeadLength, Speed, MalformedPort, MalformedSheet, BufferShort, FrameSending}
 use Rattle.rule.specs.Refusals.{numberOf}
 use Rattle.rule.specs.Acts.{Act}
+use Rattle.rule.proofs.Refusals.{number-same}
 use Rattle.port.specs.declared.Port.{Port}
 use Rattle.port.specs.declared.Acted.{Acted}
 use Rattle.port.specs.declared.Answer.{Answer}
 use Rattle.port.specs.declared.Looked.{Looked}
-use Rattle.port.specs.Answers.{answerNumber, lookedNumber, lookedOctet}
+use Rattle.port.specs.declared.Stepped.{Stepped}
+use Rattle.port.specs.declared.StepAnswer.{StepAnswer}
+use Rattle.port.specs.declared.StepAnswer.the-variants as stepped
+use Rattle.port.specs.Step.{Steps}
+use Rattle.port.specs.Answers.{answerNumber, steppedNumber, writtenOf, lookedNumber, lookedOctet}
 use Rattle.port.specs.Acts.{Performs, Looks, Makes}
 use Rattle.port.specs.declared.Answer.the-variants as answer
 use Rattle.port.specs.declared.Looked.the-variants as looked
@@ -25,8 +28,16 @@ use Rattle.port.specs.declared.Looked.the-variants as looked
 same-acted : (r s : Acted) → r .answer ≡ s .answer → r .port ≡ s .port → r ≡ s
 same-acted r s e f i = record { answer = e i; port = f i }
 
+same-stepped : (r s : Stepped) → r .answer ≡ s .answer → r .port ≡ s .port → r ≡ s
+same-stepped r s e f i = record { answer = e i; port = f i }
+
 pub performs-unique : (a : Act) (p : Port) (r s : Acted) → Performs a p r → Performs a p s → r ≡ s
 performs-unique a p r s k l = same-acted r s (k .answer ∙ sym (l .answer)) (k .port ∙ sym (l .port))
+
+pub steps-unique : (p : Port) (goal : ℕ) (at os : List ℕ) (r : Stepped) (at₁ os₁ : List ℕ) (s : Stepped) (at₂ os₂ : List ℕ)
+    → Steps p goal at at₁ os os₁ r → Steps p goal at at₂ os os₂ s → (r ≡ s) × ((at₁ ≡ at₂) × (os₁ ≡ os₂))
+steps-unique p goal at os r at₁ os₁ s at₂ os₂ k l =
+    (same-stepped r s (k .answer ∙ sym (l .answer)) (k .port ∙ sym (l .port)), (k .instants ∙ sym (l .instants), k .octets ∙ sym (l .octets)))
 
 pub looks-unique : (p : Port) (t : ℕ) (r s : Looked) → Looks p t r → Looks p t s → r ≡ s
 looks-unique p t r s k l = k ∙ sym l
@@ -36,35 +47,8 @@ makes-unique start octet r s k l = same-acted r s (k .answer ∙ sym (l .answer)
 
 -- numbers
 
--- the refusal of a number, 1 to 17
-refusalOf : ℕ → Refusal
-refusalOf n =
-    getD
-    (CutShort ∷ CutShort ∷ Operation ∷ LengthOctet ∷ ZeroInterval ∷ ListLength ∷ SwitchedOff ∷ ChangeWaits ∷ CycleTime
-    ∷ AboveLargest ∷ BeforeClock ∷ StepTooLong ∷ HeadLength ∷ Speed ∷ MalformedPort ∷ MalformedSheet ∷ BufferShort ∷ FrameSending ∷ []) n CutShort
-
-refusal-number : (r : Refusal) → refusalOf (numberOf r) ≡ r
-unfolding refusalOf
-refusal-number CutShort = refl
-refusal-number Operation = refl
-refusal-number LengthOctet = refl
-refusal-number ZeroInterval = refl
-refusal-number ListLength = refl
-refusal-number SwitchedOff = refl
-refusal-number ChangeWaits = refl
-refusal-number CycleTime = refl
-refusal-number AboveLargest = refl
-refusal-number BeforeClock = refl
-refusal-number StepTooLong = refl
-refusal-number HeadLength = refl
-refusal-number Speed = refl
-refusal-number MalformedPort = refl
-refusal-number MalformedSheet = refl
-refusal-number BufferShort = refl
-refusal-number FrameSending = refl
-
 refusal-told : (r s : Refusal) → some (numberOf r) ≡ some (numberOf s) → r ≡ s
-refusal-told r s e = let z : numberOf r ≡ numberOf s = cc in sym (refusal-number r) ∙ ap refusalOf z ∙ refusal-number s
+refusal-told r s e = number-same r s (cc)
 
 none-some : (n : ℕ) → none ≡ some n → ⊥
 none-some n e = let z : _≡_ {A = ℕ} 0 1 = cc in omega arith
@@ -80,3 +64,9 @@ looked-told (looked.Octet o) (looked.Octet q) e f = ap looked.Octet f
 looked-told (looked.Octet o) (looked.Refused q) e f = absurd (none-some (numberOf q) e)
 looked-told (looked.Refused q) (looked.Octet o) e f = absurd (none-some (numberOf q) (sym e))
 looked-told (looked.Refused q) (looked.Refused p) e f = ap looked.Refused (refusal-told q p e)
+
+pub stepped-told : (r s : StepAnswer) → steppedNumber r ≡ steppedNumber s → writtenOf r ≡ writtenOf s → r ≡ s
+stepped-told (stepped.Written m) (stepped.Written n) e f = ap stepped.Written f
+stepped-told (stepped.Written m) (stepped.Refused q) e f = absurd (none-some (numberOf q) e)
+stepped-told (stepped.Refused q) (stepped.Written m) e f = absurd (none-some (numberOf q) (sym e))
+stepped-told (stepped.Refused q) (stepped.Refused p) e f = ap stepped.Refused (refusal-told q p e)

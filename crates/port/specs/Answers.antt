@@ -53,3 +53,8 @@ steppedOf (some r) n = stepped.Refused r
 abbrev pub steppedNumber : StepAnswer → Option ℕ
 steppedNumber (stepped.Written n) = none
 steppedNumber (stepped.Refused r) = some (numberOf r)
+
+-- the changes that a step wrote, 0 if it is refused
+abbrev pub writtenOf : StepAnswer → ℕ
+writtenOf (stepped.Written n) = n
+writtenOf (stepped.Refused r) = 0

@@ -32,6 +32,7 @@ fn pass(octet: u8, from: u64, until: u64, w: Walk, instants: &mut [u64], octets:
 {
     let n = w.written;
     let o = w.octet;
+    let stop = from - 1;
     if octet == o {
         return Walk {
             at: until - 1,
@@ -42,7 +43,7 @@ fn pass(octet: u8, from: u64, until: u64, w: Walk, instants: &mut [u64], octets:
     }
     if instants.len() <= n {
         return Walk {
-            at: from - 1,
+            at: stop,
             octet: o,
             written: n,
             full: true,
@@ -50,7 +51,7 @@ fn pass(octet: u8, from: u64, until: u64, w: Walk, instants: &mut [u64], octets:
     }
     if octets.len() <= n {
         return Walk {
-            at: from - 1,
+            at: stop,
             octet: o,
             written: n,
             full: true,

@@ -1,3 +1,4 @@
+pub mod Refusals
 pub mod Cut
 pub mod Reach
 pub mod Shown

@@ -1,7 +1,7 @@
 -- What a call that is accepted has passed: none of the tests of its order holds. In order: one test; submit; transmit; a step's goal; new and look.
 -- Assumes nothing.
 use mathlib.Core.Path.{_≡_, refl, sym}
-use mathlib.Core.Bool.{Bool, true, false, cond, not, true≢false}
+use mathlib.Core.Bool.{Bool, true, false, cond, not, _&&_, true≢false}
 use mathlib.Core.List.{List}
 use mathlib.Core.Option.{Option, none, some}
 use Prim.Native.Nat.{ℕ, _-_, _≤_}
@@ -17,9 +17,14 @@ use Rattle.rule.specs.Port.{Port}
 use Rattle.rule.specs.Acts.{Submission, isSome, submit, transmit}
 use Rattle.rule.specs.Orders.{any, lengthOffered, hasZeroInterval, speedOffered, headOffered, submitOrder, transmitOrder, stepOrder, lookOrder, newOrder, accepts, acceptsGoal}
 
+-- one test; two tests at once
 passed : (b : Bool) (r : Refusal) (rest : Option Refusal) → accepted (cond b (some r) rest) ≡ true → (b ≡ false) × (accepted rest ≡ true)
 passed true r rest e = absurd (true≢false (sym e))
 passed false r rest e = (refl, e)
+
+pub both : (a b : Bool) → a && b ≡ true → (a ≡ true) × (b ≡ true)
+both true b e = (refl, e)
+both false b e = absurd (true≢false (sym e))
 
 pub absent : {A : Type 0} (o : Option A) → isSome o ≡ false → o ≡ none
 absent none e = refl

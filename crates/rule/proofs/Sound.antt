@@ -21,7 +21,7 @@ use Rattle.rule.specs.Machine.{ticks}
 use Rattle.rule.specs.PortMachine.{machine}
 use Rattle.rule.specs.Sound.{SoundConfig, SoundOperating, SoundWaiting, SoundFrame, Sound}
 use Rattle.rule.proofs.Cut.{cases}
-use Rattle.rule.proofs.Orders.{PassedSubmit, submit-passed, transmit-passed}
+use Rattle.rule.proofs.Orders.{both, PassedSubmit, submit-passed, transmit-passed}
 use Rattle.rule.proofs.Cycles.{Last, last-no}
 use Rattle.rule.proofs.ClosedForms.{change-near}
 use Rattle.rule.proofs.Choice.{speed-range, duration-some}
@@ -93,10 +93,6 @@ sound-ticks (suc n) p h s =
     (sound-tested (due (suc (p .clock)) p) (sound-due (suc (p .clock)) p (omega arith) (omega arith) s))
 
 -- acts
-
-both : (a b : Bool) → a && b ≡ true → (a ≡ true) × (b ≡ true)
-both true b e = (refl, e)
-both false b e = absurd (true≢false (sym e))
 
 pub cycle-range : (n d : ℕ) → cycleOffered n d ≡ true → (1 ≤ cycleOf n d) × (cycleOf n d ≤ largestCycle)
 unfolding cycleOffered

@@ -1,7 +1,7 @@
 -- `port::overrun::marked` meets its contract: a frame that is there and met a closed gate is counted, else nothing changes.
 -- Assumes nothing.
 use mathlib.Core.Path.{ap, sym, _∙_}
-use Rattle.gatelist.proofs.Sound.{both}
+use Rattle.rule.proofs.Orders.{both}
 use Rattle.port.specs.Coding.{decode, encode}
 use Rattle.port.specs.Updates.{withMark}
 use Rattle.port.proofs.Overruns.{class-fine, mark-other, mark-yes}

@@ -1,29 +1,24 @@
--- `pass` meets its contract: nothing changes, or a change finds no room in one of the buffers, or is written in both.
+-- `port::walk::pass` meets its contract: nothing changes, or a change finds no room in one of the buffers, or is written in both.
 -- Assumes nothing.
-use borrow.Author.Needs.{needs}
 use native.Mathlib.Omega.{arith}
 use Rattle.port.proofs.Walking.{passes-same, passes-full, passes-more}
+use borrow.Author.Needs.{needs}
 use Rattle.port.proofs.walk.pass.Statement.{statement}
 use Rattle.port.proofs.walk.pass.Tie as tie
-use Rattle.port.proofs.walk.pass.Reads as reads
-use Rattle.port.proofs.walk.pass.Lts as lts
 
-sub-t10 : tie.Need-sub-t10
-sub-t10 c = search needs
+sub-stop : tie.Need-sub-stop
+sub-stop c = search needs
+
+sub-t11 : tie.Need-sub-t11
+sub-t11 c = search needs
 
 returns : tie.Need-returns
 returns c = let a = c .before .args in
     passes-same (a .octet) (a .from) (a .until) (a .w) (a .instants .now) (a .octets .now) (omega arith) (omega arith) (c .if1 .taken)
 
-sub-t12 : tie.Need-sub-t12
-sub-t12 c = search needs
-
 returns-2 : tie.Need-returns-2
 returns-2 c = let a = c .before .before .args in
     passes-full (a .octet) (a .from) (a .until) (a .w) (a .instants .now) (a .octets .now) (omega arith) (omega arith) (c .before .if1 .left) (omega arith)
-
-sub-t13 : tie.Need-sub-t13
-sub-t13 c = search needs
 
 returns-3 : tie.Need-returns-3
 returns-3 c = let a = c .before .before .before .args in
@@ -38,11 +33,11 @@ slice-write-instants c = search needs
 slice-write-octets : tie.Need-slice-write-octets
 slice-write-octets c = search needs
 
-sub-t16 : tie.Need-sub-t16
-sub-t16 c = search needs
+sub-t15 : tie.Need-sub-t15
+sub-t15 c = search needs
 
-add-t11 : tie.Need-add-t11
-add-t11 c = search needs
+add-t12 : tie.Need-add-t12
+add-t12 c = search needs
 
 same-length : tie.Need-same-length
 same-length c = search needs
@@ -58,17 +53,16 @@ pub pass-spec : {M : Type 1} → statement M
 pass-spec =
     tie.close
     (tie.spec
-    sub-t10
+    sub-stop
+    sub-t11
     returns
-    sub-t12
     returns-2
-    sub-t13
     returns-3
     mul-instants
     slice-write-instants
     slice-write-octets
-    sub-t16
-    add-t11
+    sub-t15
+    add-t12
     same-length
     same-length-2
     returns-4)

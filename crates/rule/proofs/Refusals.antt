@@ -1,4 +1,4 @@
--- Document 01's numbers tell the refusals apart, and 0 is none of them.
+-- Document 01, 'Numbers returned when a call declines': the numbers tell the refusals apart, and 0 is none of them.
 -- Assumes nothing.
 use mathlib.Core.Path.{_≡_, refl, ap, sym, _∙_}
 use mathlib.Core.List.{[], _∷_}

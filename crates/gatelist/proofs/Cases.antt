@@ -4,7 +4,7 @@
 use mathlib.Core.List.{List, [], _∷_, _++_}
 use Prim.Native.Nat.{ℕ}
 use lib.Dec.{T}
-use lib.ListN.{getD, replicate}
+use lib.ListN.{replicate}
 use Rattle.rule.specs.Orders.{lengthOffered, hasZeroInterval}
 use Rattle.rule.proofs.Cases as rule
 use Rattle.gatelist.specs.declared.GateList.{GateList}

@@ -13,3 +13,9 @@ pub mod Spanning
 pub mod Meeting
 pub mod Moving
 pub mod Stepping
+pub mod Octets
+pub mod Classes
+pub mod Closing
+pub mod LookAhead
+pub mod Transmitting
+pub mod Chosen

@@ -62,7 +62,7 @@ safe-onward vs s h c k b = record {
 }
 
 -- the next entry begins where this one stops
-advances-from : (vs : List ℕ) (n period : ℕ) (c r : Cursor) → Advances vs n period c r → c .stop ≤ c .next → r .from ≡ c .stop
+pub advances-from : (vs : List ℕ) (n period : ℕ) (c r : Cursor) → Advances vs n period c r → c .stop ≤ c .next → r .from ≡ c .stop
 advances-from vs n period c r a u = go (ltb (c .stop) (c .next)) refl
   where
     go : (b : Bool) → ltb (c .stop) (c .next) ≡ b → r .from ≡ c .stop

@@ -1,5 +1,6 @@
 -- Each contract of a public call leaves one outcome: two outcomes that it allows for one input are equal. `on`, `off`, `standing` and `submit` have the
--- contract `Performs`, `step` has `Steps`, `look` has `Looks`, `new` has `Makes`. Only a step lends memory: its two buffers. And document 01's number,
+-- contract `Performs`, `step` has `Steps`, `look` has `Looks`, `new` has `Makes`, `transmit` has
+-- `Transmits`. Only a step lends memory: its two buffers. And document 01's number,
 -- with the value of an accepted call, tells an answer from every other of its kind (`answer-told`, `stepped-told`, `looked-told`).
 -- Assumes nothing.
 use mathlib.Core.Path.{_≡_, refl, ap, sym, _∙_}
@@ -20,7 +21,9 @@ use Rattle.port.specs.declared.StepAnswer.{StepAnswer}
 use Rattle.port.specs.declared.StepAnswer.the-variants as stepped
 use Rattle.port.specs.Step.{Steps}
 use Rattle.port.specs.Answers.{answerNumber, steppedNumber, writtenOf, lookedNumber, lookedOctet}
+use Rattle.port.specs.declared.Transmitted.{Transmitted}
 use Rattle.port.specs.Acts.{Performs, Looks, Makes}
+use Rattle.port.specs.Transmit.{Transmits}
 use Rattle.port.specs.declared.Answer.the-variants as answer
 use Rattle.port.specs.declared.Looked.the-variants as looked
 
@@ -44,6 +47,9 @@ looks-unique p t r s k l = k ∙ sym l
 
 pub makes-unique : (start octet : ℕ) (r s : Acted) → Makes start octet r → Makes start octet s → r ≡ s
 makes-unique start octet r s k l = same-acted r s (k .answer ∙ sym (l .answer)) (k .port ∙ sym (l .port))
+
+pub transmits-unique : (heads : List ℕ) (speed : ℕ) (p : Port) (r s : Transmitted) → Transmits heads speed p r → Transmits heads speed p s → r ≡ s
+transmits-unique heads speed p r s k l i = record { answer = (k .answer ∙ sym (l .answer)) i; port = (k .port ∙ sym (l .port)) i }
 
 -- numbers
 

@@ -7,12 +7,15 @@ use Rattle.rule.specs.declared.Refusal.{Refusal}
 use Rattle.rule.specs.Refusals.{numberOf}
 use Rattle.port.specs.declared.Port.{Port}
 use Rattle.port.specs.declared.Acted.{Acted}
+use Rattle.rule.specs.Port.{Frame}
 use Rattle.port.specs.declared.Answer.{Answer}
 use Rattle.port.specs.declared.Looked.{Looked}
 use Rattle.port.specs.declared.Answer.the-variants as answer
 use Rattle.port.specs.declared.Looked.the-variants as looked
 use Rattle.port.specs.declared.StepAnswer.{StepAnswer}
 use Rattle.port.specs.declared.StepAnswer.the-variants as stepped
+use Rattle.port.specs.declared.Choice.{Choice}
+use Rattle.port.specs.declared.Choice.the-variants as choice
 
 -- an act is done, or refused
 abbrev pub answerOf : Option Refusal → Answer
@@ -30,6 +33,12 @@ refusedWith r p = record { answer = answer.Refused r; port = p }
 abbrev pub lookedOf : Option Refusal → ℕ → Looked
 lookedOf none octet = looked.Octet octet
 lookedOf (some r) octet = looked.Refused r
+
+-- a transmit gives a frame's class, start and end, or nothing, or is refused
+abbrev pub choiceOf : Option Refusal → Option Frame → Choice
+choiceOf none none = choice.Nothing
+choiceOf none (some f) = choice.Frame (f .class) (f .start) (f .end)
+choiceOf (some r) f = choice.Refused r
 
 -- document 01's numbers: none for an accepted call
 abbrev pub answerNumber : Answer → Option ℕ
@@ -58,3 +67,8 @@ steppedNumber (stepped.Refused r) = some (numberOf r)
 abbrev pub writtenOf : StepAnswer → ℕ
 writtenOf (stepped.Written n) = n
 writtenOf (stepped.Refused r) = 0
+
+abbrev pub choiceNumber : Choice → Option ℕ
+choiceNumber (choice.Frame class start end) = none
+choiceNumber choice.Nothing = none
+choiceNumber (choice.Refused r) = some (numberOf r)

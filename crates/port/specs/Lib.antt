@@ -9,3 +9,6 @@ pub mod Walk
 pub mod Cursor
 pub mod Stretch
 pub mod Step
+pub mod Ahead
+pub mod Choosing
+pub mod Transmit

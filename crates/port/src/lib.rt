@@ -1,6 +1,8 @@
 // One port of a switch with eight traffic classes: its record, and the calls on it. Each act takes the record by value and hands back the next one
 // with its answer; a refused act hands back the record that it got. Any bit pattern of a record is taken: a malformed one is refused.
 mod acts;
+mod ahead;
+mod choosing;
 mod look;
 mod numbers;
 mod overrun;
@@ -8,6 +10,7 @@ mod record;
 mod regime;
 mod step;
 mod submit;
+mod transmit;
 mod walk;
 
 use gatelist::GateList;
@@ -93,5 +96,18 @@ pub enum StepAnswer {
 // A step's answer, and the port after it.
 pub struct Stepped {
     pub answer: StepAnswer,
+    pub port: Port,
+}
+
+// What a transmit answers: the class of the frame chosen with the instants at which it starts and ends, nothing, or refused for a reason.
+pub enum Choice {
+    Frame(u8, u64, u64),
+    Nothing,
+    Refused(Refusal),
+}
+
+// A transmit's answer, and the port after it.
+pub struct Transmitted {
+    pub answer: Choice,
     pub port: Port,
 }

@@ -53,7 +53,7 @@ pub fn times_of(p: Port) -> Times
 }
 
 // The start of the plain cycle that runs at t.
-fn plain_start(start: u64, length: u64, t: u64) -> u64
+pub fn plain_start(start: u64, length: u64, t: u64) -> u64
     requires { ⌜ Cycling start length t ⌝ }
     requires { ⌜ t ≤ largestInstant + largestCycle ⌝ }
     ensures { λ r. ⌜ (r ≡ start + (t - start) / length * length) × (r ≤ t) ⌝ }

@@ -68,11 +68,11 @@ fn pass(octet: u8, from: u64, until: u64, w: Walk, instants: &mut [u64], octets:
 }
 
 // An entry of a running cycle: its place, the instant from which it is looked at, where it stops, and where the next cycle starts.
-struct Cursor {
-    place: usize,
-    from: u64,
-    stop: u64,
-    next: u64,
+pub struct Cursor {
+    pub place: usize,
+    pub from: u64,
+    pub stop: u64,
+    pub next: u64,
 }
 
 // The entry at a place, which begins at an instant.
@@ -107,7 +107,7 @@ fn entry_from(intervals: &[u32; 128], len: usize, place: usize, from: u64, next:
 }
 
 // The entry that an offset of a running cycle falls into.
-fn cursor_at(intervals: &[u32; 128], len: usize, period: u64, base: u64, from: u64) -> Cursor
+pub fn cursor_at(intervals: &[u32; 128], len: usize, period: u64, base: u64, from: u64) -> Cursor
     requires { ⌜ (1 ≤ len) × ((base ≤ from) × ((from < base + period) × (base + period < 18446744073709551616))) ⌝ }
     ensures { λ r. ⌜ (r .from ≡ from) × Placed (now (intervals .entry)) len base (base + period) r ⌝ }
 {
@@ -140,7 +140,7 @@ fn cursor_at(intervals: &[u32; 128], len: usize, period: u64, base: u64, from: u
 }
 
 // The entry after a cursor's: in the same cycle, or the first of the next.
-fn advance(intervals: &[u32; 128], len: usize, period: u64, c: Cursor) -> Cursor
+pub fn advance(intervals: &[u32; 128], len: usize, period: u64, c: Cursor) -> Cursor
     requires { ⌜ Onward (now intervals) len period c ⌝ }
     ensures { λ r. ⌜ Advances (now (intervals .entry)) len period c r ⌝ }
 {
@@ -155,12 +155,12 @@ fn advance(intervals: &[u32; 128], len: usize, period: u64, c: Cursor) -> Cursor
 
 // A stretch in which one list rules: its cycles take a period, one of them has begun at base and runs at the instant from, and so it goes on to before
 // the edge.
-struct Stretch {
-    len: usize,
-    period: u64,
-    base: u64,
-    from: u64,
-    edge: u64,
+pub struct Stretch {
+    pub len: usize,
+    pub period: u64,
+    pub base: u64,
+    pub from: u64,
+    pub edge: u64,
 }
 
 // Walks a stretch entry by entry.

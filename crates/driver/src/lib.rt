@@ -1,0 +1,74 @@
+// The driver's call: its one port record is lent, and a transmit on it stores the frame there. A refused call, and one that finds nothing to send, leave
+// every octet of the record as it is. Exported to C: include/port.h has the record and what a caller must keep.
+ghost use mathlib.Core.Path.{_≡_};
+ghost use Rattle.driver.specs.Lent.{answerFor, Frames, Lends};
+use port::Choice;
+use port::Frame;
+use port::Port;
+
+// What a lent transmit answers, in numbers: that of the refusal, or 0; and whether a frame was chosen (1) or not (0), with its class, start and end. What
+// does not apply is 0.
+#[repr(C)]
+pub struct Answer {
+    pub number: u8,
+    pub chosen: u8,
+    pub class: u8,
+    pub start: u64,
+    pub end: u64,
+}
+
+// The answer, and the frame of the port after the call.
+struct Framed {
+    answer: Answer,
+    frame: Frame,
+}
+
+fn numbered(choice: Choice) -> Answer
+    ensures { λ r. ⌜ r ≡ answerFor choice ⌝ }
+{
+    match choice {
+        Choice::Frame(class, start, end) => Answer {
+            number: 0,
+            chosen: 1,
+            class,
+            start,
+            end,
+        },
+        Choice::Nothing => Answer {
+            number: 0,
+            chosen: 0,
+            class: 0,
+            start: 0,
+            end: 0,
+        },
+        Choice::Refused(reason) => Answer {
+            number: rule::number(reason),
+            chosen: 0,
+            class: 0,
+            start: 0,
+            end: 0,
+        },
+    }
+}
+
+// The choice by value.
+fn framed_of(p: Port, heads: [u64; 8], speed: u64) -> Framed
+    ensures { λ r. ⌜ Frames heads speed p r ⌝ }
+{
+    let t = p.transmit(heads, speed);
+    let choice = t.answer;
+    let port = t.port;
+    let frame = port.frame;
+    let answer = numbered(choice);
+    Framed { answer, frame }
+}
+
+// Chooses a frame by the heads of the eight queues (0: empty) and the speed in Mbit/s, and stores it in the lent port. Refused: 14, 13, 17, 12.
+#[no_mangle]
+pub extern "C" fn kurfandaz_transmit(p: &mut Port, heads: &[u64; 8], speed: u64) -> Answer
+    ensures { λ r. ⌜ Lends (now (heads .entry)) speed (now (p .entry)) r (now (p .exit)) ⌝ }
+{
+    let c = framed_of(*p, *heads, speed);
+    p.frame = c.frame;
+    c.answer
+}

@@ -1,0 +1,94 @@
+-- Document 01, 'Choosing a frame', of a port record: an accepted transmit chooses no frame exactly if no class qualifies (`chooses-none`), the class that it
+-- chooses is the highest that does (`chooses-highest`), and its frame begins now and takes its duration (`chooses-frame`). The record after an accepted transmit
+-- stands for the port after the act (`transmit-carried`), and is well formed (`transmit-formed`). Case 9 of document 01 is in the table of crate `rule`, and
+-- holds of the record by `transmit-carried`.
+-- Assumes nothing.
+use mathlib.Core.Path.{_≡_, refl, ap, sym, _∙_, subst}
+use mathlib.Core.Logic.{_↔_}
+use mathlib.Core.Bool.{Bool, true, false, cond}
+use mathlib.Core.List.{List}
+use mathlib.Core.Option.{Option, none, some}
+use Prim.Native.Nat.{ℕ, _+_, _<_}
+use native.Mathlib.Omega.{arith}
+use lib.ListN.{getD}
+use Rattle.rule.specs.Port as model
+use Rattle.rule.specs.Choice.{duration, lookAhead, qualifies}
+use Rattle.rule.specs.Acts.{transmit, performed, perform, isSome}
+use Rattle.rule.specs.Orders.{accepts}
+use Rattle.rule.proofs.Choice.{Highest, Chosen, chosen-is, chosen-none}
+use Rattle.port.specs.declared.Port.{Port}
+use Rattle.port.specs.declared.Acted.{Acted}
+use Rattle.port.specs.declared.Choice.the-variants as choice
+use Rattle.port.specs.declared.Transmitted.{Transmitted}
+use Rattle.port.specs.Record.{wellFormed}
+use Rattle.port.specs.Coding.{decode, Fine}
+use Rattle.port.specs.Answers.{answerOf, choiceOf}
+use Rattle.port.specs.Acts.{declines, Performs}
+use Rattle.port.specs.Transmit.{Transmits}
+use Rattle.port.proofs.Carried.{act-carried, act-formed}
+
+module _ (heads : List ℕ) (speed : ℕ) (p : Port) (r : Transmitted) (k : Transmits heads speed p r) where
+  -- the outcome of the act: its answer but for the frame, and its port
+  acted : Acted
+  acted = record { answer = answerOf (declines (transmit heads speed) p); port = r .port }
+
+  performs : Performs (transmit heads speed) p acted
+  unfolding acted
+  performs = record { answer = refl; port = k .port }
+
+  module _ (w : wellFormed p ≡ true) where
+    pub transmit-carried : decode (r .port) ≡ cond (accepts (transmit heads speed) (decode p)) (perform (transmit heads speed) (decode p)) (decode p)
+    unfolding acted
+    transmit-carried = act-carried p w (transmit heads speed) acted performs .1
+
+    pub transmit-formed : Fine p → wellFormed (r .port) ≡ true
+    unfolding acted
+    transmit-formed f = act-formed p w (transmit heads speed) f acted performs
+
+  -- the class qualifies now, on the record
+  abbrev pub qualifiesNow : ℕ → Bool
+  qualifiesNow = qualifies heads speed (decode p .clock) (model.shownNow (decode p)) (lookAhead (decode p))
+
+  module _ (e : declines (transmit heads speed) p ≡ none) where
+    answered : r .answer ≡ choiceOf none (performed (transmit heads speed) (decode p) .frame)
+    answered = k .answer ∙ ap (λ o. choiceOf o (performed (transmit heads speed) (decode p) .frame)) e
+
+    pub chooses-none : (r .answer ≡ choice.Nothing) ↔ ((j : ℕ) → j < 8 → qualifiesNow j ≡ false)
+    chooses-none =
+        let c = chosen-none heads speed (decode p .clock) (model.shownNow (decode p)) (lookAhead (decode p)) in (
+          λ a. c .0 (empty (performed (transmit heads speed) (decode p) .frame) (sym answered ∙ a)),
+          λ f. answered ∙ nothing (performed (transmit heads speed) (decode p) .frame) (c .1 f),
+        )
+      where
+        empty : (o : Option model.Frame) → choiceOf none o ≡ choice.Nothing → isSome o ≡ false
+        empty none q = refl
+        empty (some f) q = let z : _≡_ {A = ℕ} 0 1 = cc in absurd (omega arith)
+
+        nothing : (o : Option model.Frame) → isSome o ≡ false → choiceOf none o ≡ choice.Nothing
+        nothing none q = refl
+        nothing (some f) q = let z : _≡_ {A = ℕ} 0 1 = cc in absurd (omega arith)
+
+    module _ (class start end : ℕ) (a : r .answer ≡ choice.Frame class start end) where
+      framed : (o : Option model.Frame) → choiceOf none o ≡ choice.Frame class start end → Chosen heads speed (decode p .clock) qualifiesNow o
+          → Highest qualifiesNow 8 (some class) × ((start ≡ decode p .clock) × (end ≡ decode p .clock + duration (getD heads class 0) speed))
+      framed none q c = let z : _≡_ {A = ℕ} 0 1 = cc in absurd (omega arith)
+      framed (some f) q c =
+          let x : f .class ≡ class = cc in
+          let y : f .start ≡ start = cc in
+          let z : f .end ≡ end = cc in (
+            subst (λ n. Highest qualifiesNow 8 (some n)) x (c .0),
+            (
+              sym y ∙ ap (λ (g : model.Frame). g .start) (c .1),
+              sym z ∙ ap (λ (g : model.Frame). g .end) (c .1) ∙ ap (λ n. decode p .clock + duration (getD heads n 0) speed) x,
+            ),
+          )
+
+      pub chooses-highest : Highest qualifiesNow 8 (some class)
+      chooses-highest =
+          framed (performed (transmit heads speed) (decode p) .frame) (sym answered ∙ a)
+          (chosen-is heads speed (decode p .clock) (model.shownNow (decode p)) (lookAhead (decode p))) .0
+
+      pub chooses-frame : (start ≡ decode p .clock) × (end ≡ decode p .clock + duration (getD heads class 0) speed)
+      chooses-frame =
+          framed (performed (transmit heads speed) (decode p) .frame) (sym answered ∙ a)
+          (chosen-is heads speed (decode p .clock) (model.shownNow (decode p)) (lookAhead (decode p))) .1

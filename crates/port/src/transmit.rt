@@ -1,0 +1,95 @@
+// Transmit: the frame of the highest class that qualifies begins now. A refusal hands back the port that it got.
+ghost use mathlib.Core.Path.{_≡_};
+ghost use mathlib.Core.Bool.{not};
+ghost use mathlib.Core.Option.{none};
+ghost use Rattle.rule.specs.Orders.{any, speedOffered, headOffered};
+ghost use Rattle.port.specs.Coding.{present, decodeFrame};
+ghost use Rattle.port.specs.Answers.{answerOf, choiceOf};
+ghost use Rattle.port.specs.Transmit.{Transmits, transmitRefusal};
+use crate::Answer;
+use crate::Choice;
+use crate::Frame;
+use crate::Port;
+use crate::Transmitted;
+use crate::choosing::chosen;
+use crate::record::well_formed;
+use rule::Refusal;
+
+fn speed_offered(speed: u64) -> bool
+    ensures { λ r. ⌜ r ≡ speedOffered speed ⌝ }
+{
+    (speed == 10) | ((speed == 100) | (speed == 1_000))
+}
+
+// An empty queue, or a frame's length.
+fn head_offered(len: u64) -> bool
+    ensures { λ r. ⌜ r ≡ headOffered len ⌝ }
+{
+    (len == 0) | ((64 <= len) & (len <= 2_000))
+}
+
+// One of the heads is neither.
+fn head_wrong(heads: [u64; 8]) -> bool
+    ensures { λ r. ⌜ r ≡ any (λ n. not (headOffered n)) heads ⌝ }
+{
+    let mut wrong = false;
+    for k in 0..8 {
+        let offered = head_offered(heads[k]);
+        wrong = wrong | !offered;
+    }
+    wrong
+}
+
+// The order of Transmit: 14, 13, 17, 12.
+fn first_refusal(formed: bool, speed: bool, sending: bool, wrong: bool) -> Answer
+    ensures { λ r. ⌜ r ≡ answerOf (transmitRefusal formed speed sending wrong) ⌝ }
+{
+    if !formed {
+        return Answer::Refused(Refusal::MalformedPort);
+    }
+    if !speed {
+        return Answer::Refused(Refusal::Speed);
+    }
+    if sending {
+        return Answer::Refused(Refusal::FrameSending);
+    }
+    if wrong {
+        return Answer::Refused(Refusal::HeadLength);
+    }
+    Answer::Done
+}
+
+// The frame as an answer.
+fn answer_of(f: Frame) -> Choice
+    ensures { λ r. ⌜ r ≡ choiceOf none (present (f .present) (decodeFrame f)) ⌝ }
+{
+    if f.present {
+        return Choice::Frame(f.class, f.start, f.end);
+    }
+    Choice::Nothing
+}
+
+impl Port {
+    // Chooses a frame, by the lengths at the heads of the eight queues (0: empty) and the speed in Mbit/s. It begins now. The overrun test that follows
+    // the act finds the gate of a chosen class open, so nothing but the frame changes. Refused: 14, 13, 17, 12.
+    pub fn transmit(self, heads: [u64; 8], speed: u64) -> Transmitted
+        ensures { λ r. ⌜ Transmits heads speed self r ⌝ }
+    {
+        let formed = well_formed(self);
+        let offered = speed_offered(speed);
+        let wrong = head_wrong(heads);
+        let f = self.frame;
+        let refusal = first_refusal(formed, offered, f.present, wrong);
+        if let Answer::Refused(reason) = refusal {
+            return Transmitted {
+                answer: Choice::Refused(reason),
+                port: self,
+            };
+        }
+        let frame = chosen(self, heads, speed);
+        let answer = answer_of(frame);
+        let mut port = self;
+        port.frame = frame;
+        Transmitted { answer, port }
+    }
+}

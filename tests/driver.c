@@ -1,0 +1,148 @@
+/* The exported transmit, called from C: the layout of the record, and each outcome with every other octet of the port compared. Freestanding headers
+ * only; what it takes of the C library is declared here. */
+#include "port.h"
+
+int printf(const char *format, ...);
+void *memcpy(void *to, const void *from, size_t n);
+void *memset(void *to, int octet, size_t n);
+int memcmp(const void *a, const void *b, size_t n);
+
+#define AT(type, field, place) _Static_assert(offsetof(struct kurfandaz_##type, field) == (place), #type "." #field)
+#define SIZE(type, size) _Static_assert(sizeof(struct kurfandaz_##type) == (size), #type)
+
+_Static_assert(sizeof(size_t) == 8 && sizeof(bool) == 1, "the widths that the record has");
+AT(gate_list, octets, 0);
+AT(gate_list, intervals, 128);
+AT(gate_list, len, 640);
+SIZE(gate_list, 648);
+AT(config, list, 0);
+AT(config, cycle, 648);
+AT(config, extension, 656);
+AT(config, start, 664);
+SIZE(config, 672);
+AT(waiting, config, 0);
+AT(waiting, since, 672);
+SIZE(waiting, 680);
+AT(frame, present, 0);
+AT(frame, class_, 1);
+AT(frame, start, 8);
+AT(frame, end, 16);
+AT(frame, counted, 24);
+SIZE(frame, 32);
+AT(port, frame, 0);
+AT(port, clock, 32);
+AT(port, on, 40);
+AT(port, standing, 41);
+AT(port, operates, 42);
+AT(port, operating, 48);
+AT(port, waits, 720);
+AT(port, waiting, 728);
+AT(port, errors, 1408);
+AT(port, overruns, 1416);
+SIZE(port, 1480);
+AT(answer, number, 0);
+AT(answer, chosen, 1);
+AT(answer, class_, 2);
+AT(answer, start, 8);
+AT(answer, end, 16);
+SIZE(answer, 24);
+
+static int passed, failed;
+
+static void is(const char *what, uint64_t got, uint64_t want) {
+    if (got == want) {
+        passed++;
+    } else {
+        failed++;
+        printf("FAILED %s: %lu, not %lu\n", what, (unsigned long)got, (unsigned long)want);
+    }
+}
+
+/* List A: 80 for 300, 01 for 500; cycle 1,000; standing FF; installed at 5,000. */
+static struct kurfandaz_port with_list(uint64_t clock) {
+    struct kurfandaz_port p;
+    memset(&p, 0, sizeof p);
+    p.clock = clock;
+    p.on = true;
+    p.standing = 0xFF;
+    p.operates = true;
+    p.operating.list.octets[0] = 0x80;
+    p.operating.list.octets[1] = 0x01;
+    p.operating.list.intervals[0] = 300;
+    p.operating.list.intervals[1] = 500;
+    p.operating.list.len = 2;
+    p.operating.cycle = 1000;
+    p.operating.extension = 7;
+    p.operating.start = 5000;
+    p.errors = 11;
+    for (int k = 0; k < KURFANDAZ_CLASSES; k++) p.overruns[k] = 100 + k;
+    return p;
+}
+
+/* The call, and what it must answer. A frame that was chosen is in the port, and everything behind the frame is as it was; else every octet is. */
+static void call(const char *what, struct kurfandaz_port *p, const uint64_t *heads, uint64_t speed, int number, int chosen, int class_, uint64_t end) {
+    struct kurfandaz_port before;
+    memcpy(&before, p, sizeof before);
+    struct kurfandaz_answer a = kurfandaz_transmit(p, heads, speed);
+    is(what, a.number, number);
+    is(what, a.chosen, chosen);
+    is(what, a.class_, class_);
+    is(what, a.start, chosen ? before.clock : 0);
+    is(what, a.end, end);
+    if (chosen) {
+        is(what, p->frame.present, true);
+        is(what, p->frame.class_, class_);
+        is(what, p->frame.start, before.clock);
+        is(what, p->frame.end, end);
+        is(what, p->frame.counted, false);
+        is(what, memcmp((char *)p + sizeof p->frame, (char *)&before + sizeof p->frame, sizeof before - sizeof p->frame) != 0, 0);
+    } else {
+        is(what, memcmp(p, &before, sizeof before) != 0, 0);
+    }
+}
+
+int main(void) {
+    uint64_t none[8] = {0}, zero[8] = {64}, all[8], bad[8] = {0, 0, 0, 0, 0, 0, 0, 63};
+    for (int k = 0; k < 8; k++) all[k] = 64;
+    struct kurfandaz_port p;
+
+    /* case 9: 576 ns from 5,424 end with the gate, at 6,000 */
+    p = with_list(5424);
+    call("a frame that ends as its gate closes", &p, zero, 1000, 0, 1, 0, 6000);
+    call("refused: a frame is being sent", &p, zero, 1000, KURFANDAZ_FRAME_SENDING, 0, 0, 0);
+    p = with_list(5425);
+    call("nothing: it would end 1 ns later", &p, zero, 1000, 0, 0, 0, 0);
+    call("nothing: every queue is empty", &p, none, 1000, 0, 0, 0, 0);
+
+    /* the gates of a port that is off are those of its standing octet; the highest class of all */
+    memset(&p, 0, sizeof p);
+    p.clock = KURFANDAZ_LARGEST_INSTANT;
+    p.standing = 0x7F;
+    call("the highest class whose gate is open", &p, all, 10, 0, 1, 6, KURFANDAZ_LARGEST_INSTANT + 57600);
+
+    /* case 11: 5,760 ns never fit class 0 of A */
+    memset(&p, 0, sizeof p);
+    p.standing = 0x01;
+    call("64 octets at 100 Mbit/s", &p, zero, 100, 0, 1, 0, 5760);
+    for (uint64_t t = 5000; t < 6000; t++) {
+        p = with_list(t);
+        call("case 11", &p, zero, 100, 0, 0, 0, 0);
+    }
+
+    /* a cycle of 1 ns that is always open: the look ahead does not go round and round */
+    p = with_list(UINT64_C(8999999999999999999));
+    p.operating.list.octets[0] = 0xFF;
+    p.operating.cycle = 1;
+    all[7] = 2000;
+    call("2,000 octets at 10 Mbit/s over a cycle of 1 ns", &p, all, 10, 0, 1, 7, UINT64_C(8999999999999999999) + KURFANDAZ_LONGEST_SPAN);
+
+    /* refusals, in their order */
+    p = with_list(5424);
+    call("refused: a head length", &p, bad, 1000, KURFANDAZ_HEAD_LENGTH, 0, 0, 0);
+    call("refused: the speed, before the head", &p, bad, 40, KURFANDAZ_SPEED, 0, 0, 0);
+    p.operating.list.intervals[1] = 0;
+    call("refused: the record, before the speed", &p, bad, 40, KURFANDAZ_MALFORMED_PORT, 0, 0, 0);
+
+    printf("%d passed, %d failed\n", passed, failed);
+    return failed != 0;
+}

@@ -35,7 +35,7 @@ use Rattle.port.specs.Answers.{answerOf, choiceOf}
 use Rattle.port.specs.Acts.{declines, after}
 use Rattle.port.specs.Updates.{withFrame, withMark}
 use Rattle.port.specs.Choosing.{Offered}
-use Rattle.port.specs.Transmit.{Transmits, transmitRefusal}
+use Rattle.port.specs.Transmit.{Stores, transmitRefusal}
 use Rattle.port.proofs.Coding.{mark-there}
 use Rattle.port.proofs.Submitting.{act-refused}
 
@@ -176,23 +176,27 @@ not-declined none e = refl
 not-declined (some q) e = let z : _≡_ {A = ℕ} 0 1 = cc in absurd (omega arith)
 
 module _ (heads : List ℕ) (speed : ℕ) (p : Port) (answer : Answer) (is : answer ≡ answerOf (declines (transmit heads speed) p)) where
-  pub transmit-refused : (r : Refusal) → answer ≡ Refused r → Transmits heads speed p (record { answer = choice.Refused r; port = p })
+  pub transmit-refused : (r : Refusal) → answer ≡ Refused r → Stores heads speed p (record { answer = choice.Refused r; port = p })
   transmit-refused r e =
       let d = declined (declines (transmit heads speed) p) r (sym is ∙ e) in
       record {
-        answer = sym (ap (λ o. choiceOf o (begun heads speed (decode p))) d);
-        port = act-refused (transmit heads speed) p answer is r e .port;
+        transmits = record {
+          answer = sym (ap (λ o. choiceOf o (begun heads speed (decode p))) d);
+          port = act-refused (transmit heads speed) p answer is r e .port;
+        };
         rest = refl;
       }
 
   pub transmit-done : Fine p → answer ≡ Done → (f : Frame) → f ≡ encodeFrame (begun heads speed (decode p)) → (x : Choice)
-      → x ≡ choiceOf none (present (f .present) (decodeFrame f)) → Transmits heads speed p (record { answer = x; port = withFrame f (p .overruns) p })
+      → x ≡ choiceOf none (present (f .present) (decodeFrame f)) → Stores heads speed p (record { answer = x; port = withFrame f (p .overruns) p })
   transmit-done k e f i x j =
       let d = not-declined (declines (transmit heads speed) p) (sym is ∙ e) in
       record {
-        answer = j ∙ ap (choiceOf none) (ap (λ g. present (g .present) (decodeFrame g)) i ∙ frame-read (begun heads speed (decode p)))
-            ∙ sym (ap (λ o. choiceOf o (begun heads speed (decode p))) d);
-        port = ap (λ g. withFrame g (p .overruns) p) i ∙ framed k ∙ sym (accepts-after d);
+        transmits = record {
+          answer = j ∙ ap (choiceOf none) (ap (λ g. present (g .present) (decodeFrame g)) i ∙ frame-read (begun heads speed (decode p)))
+              ∙ sym (ap (λ o. choiceOf o (begun heads speed (decode p))) d);
+          port = ap (λ g. withFrame g (p .overruns) p) i ∙ framed k ∙ sym (accepts-after d);
+        };
         rest = refl;
       }
     where

@@ -20,7 +20,10 @@ use Rattle.port.specs.Updates.{withFrame}
 pub record Transmits (heads : List ℕ) (speed : ℕ) (p : Port) (r : Transmitted) : Type 0 where
   pub answer : r .answer ≡ choiceOf (declines (transmit heads speed) p) (performed (transmit heads speed) (decode p) .frame)
   pub port : r .port ≡ after (transmit heads speed) p
-  -- so nothing but the frame changes: the gate of a chosen class is open, and the overrun test finds nothing
+
+-- and so nothing but the frame changes: the gate of a chosen class is open, and the overrun test finds nothing
+pub record Stores (heads : List ℕ) (speed : ℕ) (p : Port) (r : Transmitted) : Type 0 where
+  pub transmits : Transmits heads speed p r
   pub rest : r .port ≡ withFrame (r .port .frame) (p .overruns) p
 
 -- the order over its tests: private to the crate

@@ -5,7 +5,7 @@ ghost use mathlib.Core.Option.{none};
 ghost use Rattle.rule.specs.Orders.{any, speedOffered, headOffered};
 ghost use Rattle.port.specs.Coding.{present, decodeFrame};
 ghost use Rattle.port.specs.Answers.{answerOf, choiceOf};
-ghost use Rattle.port.specs.Transmit.{Transmits, transmitRefusal};
+ghost use Rattle.port.specs.Transmit.{Stores, transmitRefusal};
 use crate::Answer;
 use crate::Choice;
 use crate::Frame;
@@ -73,7 +73,7 @@ impl Port {
     // Chooses a frame, by the lengths at the heads of the eight queues (0: empty) and the speed in Mbit/s. It begins now. The overrun test that follows
     // the act finds the gate of a chosen class open, so nothing but the frame changes. Refused: 14, 13, 17, 12.
     pub fn transmit(self, heads: [u64; 8], speed: u64) -> Transmitted
-        ensures { λ r. ⌜ Transmits heads speed self r ⌝ }
+        ensures { λ r. ⌜ Stores heads speed self r ⌝ }
     {
         let formed = well_formed(self);
         let offered = speed_offered(speed);

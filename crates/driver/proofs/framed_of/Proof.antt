@@ -13,7 +13,7 @@ numbered-requires : tie.Need-numbered-requires
 numbered-requires c κs = search needs
 
 returns : tie.Need-returns
-returns c = let t = c .before .before .before .transmit .ensures in record { answer = c .numbered .ensures ∙ ap answerFor (t .answer); port = sym (t .rest) ∙ t .port }
+returns c = let t = c .before .before .before .transmit .ensures in record { answer = c .numbered .ensures ∙ ap answerFor (t .transmits .answer); port = sym (t .rest) ∙ t .transmits .port }
 
 pub framed-of-spec : {M : Type 1} → statement M
 framed-of-spec = tie.close (tie.spec transmit-requires numbered-requires returns)

@@ -1,0 +1,151 @@
+-- Whatever a contract allows, a call hands back what its definition says: the record, the changes in the written places of the buffers, the act that was
+-- done (`next-is`, `written-is`, `done-is`); so a program that knows the contracts alone has what `run` says (`outcome-is`). And every contract can be
+-- kept, whatever the calls (`events-kept`, `events-calls`). For any record, malformed ones too.
+-- Assumes nothing.
+use mathlib.Core.Path.{_≡_, refl, ap, ap₂, sym, _∙_}
+use mathlib.Core.Bool.{cond}
+use mathlib.Core.List.{List, [], _∷_, _++_, map}
+use mathlib.Core.Option.{Option, none, some}
+use Prim.Native.Nat.{ℕ}
+use lib.ListN.{length, take, drop, length-map}
+use Rattle.rule.specs.declared.Refusal.{Refusal}
+use Rattle.rule.specs.Refusals.{accepted}
+use Rattle.rule.specs.Port.{Frame, shown}
+use Rattle.rule.specs.Acts as rule
+use Rattle.rule.specs.Machine.{Outcome, log}
+use Rattle.port.specs.declared.Port.{Port}
+use Rattle.port.specs.Coding.{decode}
+use Rattle.port.specs.Answers.{answerOf, choiceOf, lookedOf, steppedOf, writtenOf}
+use Rattle.port.specs.Walk.{into, instantsOf, octetsOf}
+use Rattle.port.specs.Acts.{declines, after, lookDeclines}
+use Rattle.port.specs.Step.{stepDeclines, passes, reported, afterStep}
+use Rattle.history.specs.Calls.{Call, act, transmit, step, look, meant, room, leaves, reports, asked, performed, run}
+use Rattle.history.specs.Outcomes.{Handed, Allowed, StepOutcome, next, paired, written, ifDone, ifChosen, done, Event, callsOf, Kept, outcome}
+
+-- what a step wrote can be read back
+
+pub none-reported : (p : Port) → reported p 0 ≡ []
+unfolding reported log
+none-reported p = refl
+
+pub read-back : (vs buf : List ℕ) → take (length vs) (into vs buf) ≡ vs
+unfolding into
+read-back vs buf = go vs (drop (length vs) buf)
+  where
+    go : (l r : List ℕ) → take (length l) (l ++ r) ≡ l
+    go [] r = refl
+    go (x ∷ l) r = ap (λ k. x ∷ k) (go l r)
+
+column-back : (f : ℕ × ℕ → ℕ) (l : List (ℕ × ℕ)) (buf : List ℕ) → take (length l) (into (map f l) buf) ≡ map f l
+column-back f l buf = ap (λ n. take n (into (map f l) buf)) (sym (length-map l f)) ∙ read-back (map f l) buf
+
+paired-columns : (l : List (ℕ × ℕ)) → paired (instantsOf l) (octetsOf l) ≡ l
+paired-columns [] = refl
+paired-columns (x ∷ l) = ap (λ k. x ∷ k) (paired-columns l)
+
+-- the number of written places is that of the changes, also if the step is refused
+module _ (p : Port) (goal n : ℕ) where
+  none-passes : (r : Refusal) → stepDeclines goal p ≡ some r → passes p goal n ≡ 0
+  unfolding passes
+  none-passes r e = rw e
+
+  count-is : writtenOf (steppedOf (stepDeclines goal p) (length (reported p (passes p goal n)))) ≡ length (reported p (passes p goal n))
+  count-is = go (stepDeclines goal p) refl
+    where
+      go : (d : Option Refusal) → stepDeclines goal p ≡ d
+          → writtenOf (steppedOf d (length (reported p (passes p goal n)))) ≡ length (reported p (passes p goal n))
+      go none e = refl
+      go (some r) e = sym (ap (λ k. length (reported p k)) (none-passes r e) ∙ ap length (none-reported p))
+
+pub step-written : (p : Port) (goal : ℕ) (instants octets : List ℕ) (r : StepOutcome) → Allowed (step goal instants octets) p r
+    → written (step goal instants octets) r ≡ reported p (passes p goal (room instants octets))
+step-written p goal instants octets r k =
+    let n : ℕ = room instants octets in
+    let l : List (ℕ × ℕ) = reported p (passes p goal n) in
+    let e : writtenOf (r .result .answer) ≡ length l = ap writtenOf (k .answer) ∙ count-is p goal n in
+    (λ i. paired (take (e i) (k .instants i)) (take (e i) (k .octets i)))
+    ∙ ap₂ paired (column-back (λ (x : ℕ × ℕ). x .0) l instants) (column-back (λ (x : ℕ × ℕ). x .1) l octets)
+    ∙ paired-columns l
+
+-- each call
+
+pub next-is : (c : Call) (p : Port) (r : Handed c) → Allowed c p r → next c p r ≡ leaves c p
+unfolding leaves
+next-is (act a) p r k = k .port
+next-is (transmit heads speed) p r k = k .port
+next-is (step goal instants octets) p r k = k .port
+next-is (look t) p r k = refl
+
+pub written-is : (c : Call) (p : Port) (r : Handed c) → Allowed c p r → written c r ≡ reports c p
+unfolding reports
+written-is (act a) p r k = refl
+written-is (transmit heads speed) p r k = refl
+written-is (step goal instants octets) p r k = step-written p goal instants octets r k
+written-is (look t) p r k = refl
+
+done-as : (d : Option Refusal) (x : ℕ × rule.Act) → ifDone (answerOf d) x ≡ cond (accepted d) (x ∷ []) []
+done-as none x = refl
+done-as (some r) x = refl
+
+chosen-as : (d : Option Refusal) (f : Option Frame) (x : ℕ × rule.Act) → ifChosen (choiceOf d f) x ≡ cond (accepted d) (x ∷ []) []
+chosen-as none none x = refl
+chosen-as none (some f) x = refl
+chosen-as (some r) f x = refl
+
+pub done-is : (c : Call) (p : Port) (r : Handed c) → Allowed c p r → done c p r ≡ performed (asked c) p
+done-is (act a) p r k = ap (λ q. ifDone q (p .clock, meant a)) (k .answer) ∙ done-as (declines (meant a) p) (p .clock, meant a)
+done-is (transmit heads speed) p r k =
+    ap (λ q. ifChosen q (p .clock, rule.transmit heads speed)) (k .answer)
+    ∙ chosen-as (declines (rule.transmit heads speed) p) (rule.performed (rule.transmit heads speed) (decode p) .frame) (p .clock, rule.transmit heads speed)
+done-is (step goal instants octets) p r k = refl
+done-is (look t) p r k = refl
+
+-- a call and what follows it
+abbrev pub joining : List (ℕ × ℕ) → List (ℕ × rule.Act) → Outcome Port ℕ rule.Act → Outcome Port ℕ rule.Act
+joining l h r = record { port = r .port; out = l ++ r .out; acts = h ++ r .acts }
+
+pub outcome-is : (p : Port) (es : List Event) → Kept p es → outcome p es ≡ run (callsOf es) p
+unfolding Kept outcome run
+outcome-is p [] k = refl
+outcome-is p (e ∷ es) k =
+    let c : Call = e .call in
+    let r : Handed c = e .back in
+    (λ i. joining (written-is c p r (k .0) i) (done-is c p r (k .0) i) (outcome-is (next c p r) es (k .1) i))
+    ∙ ap (λ q. joining (reports c p) (performed (asked c) p) (run (callsOf es) q)) (next-is c p r (k .0))
+
+-- every call can keep its contract, on any record
+
+pub handed : (c : Call) → Port → Handed c
+handed (act a) p = record { answer = answerOf (declines (meant a) p); port = after (meant a) p }
+handed (transmit heads speed) p =
+    let a : rule.Act = rule.transmit heads speed in
+    record { answer = choiceOf (declines a p) (rule.performed a (decode p) .frame); port = after a p }
+handed (step goal instants octets) p =
+    let k : ℕ = passes p goal (room instants octets) in
+    record {
+      result = record { answer = steppedOf (stepDeclines goal p) (length (reported p k)); port = afterStep p goal k };
+      instants = into (instantsOf (reported p k)) instants;
+      octets = into (octetsOf (reported p k)) octets;
+    }
+handed (look t) p = lookedOf (lookDeclines t p) (shown (decode p) t)
+
+pub handed-allowed : (c : Call) (p : Port) → Allowed c p (handed c p)
+unfolding handed
+handed-allowed (act a) p = record { answer = refl; port = refl }
+handed-allowed (transmit heads speed) p = record { answer = refl; port = refl }
+handed-allowed (step goal instants octets) p = record { answer = refl; port = refl; instants = refl; octets = refl }
+handed-allowed (look t) p = refl
+
+pub events : List Call → Port → List Event
+events [] p = []
+events (c ∷ cs) p = record { call = c; back = handed c p } ∷ events cs (next c p (handed c p))
+
+pub events-kept : (cs : List Call) (p : Port) → Kept p (events cs p)
+unfolding Kept events
+events-kept [] p = tt
+events-kept (c ∷ cs) p = (handed-allowed c p, events-kept cs (next c p (handed c p)))
+
+pub events-calls : (cs : List Call) (p : Port) → callsOf (events cs p) ≡ cs
+unfolding events
+events-calls [] p = refl
+events-calls (c ∷ cs) p = ap (λ l. c ∷ l) (events-calls cs (next c p (handed c p)))

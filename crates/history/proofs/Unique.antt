@@ -1,0 +1,29 @@
+-- Each contract leaves one outcome: any two outcomes of a call of the port that its contract allows on one record are equal, buffers and all
+-- (`handed-unique`); and so is what a program has in the end (`outcome-unique`). And `number` of crate `rule` (`number-unique`). The calls one by one are
+-- in port/proofs/Unique and gatelist/proofs/Unique.
+-- Assumes nothing.
+use mathlib.Core.Path.{_≡_, ap, sym, _∙_}
+use mathlib.Core.List.{List}
+use Prim.Native.Nat.{ℕ}
+use Rattle.rule.specs.declared.Refusal.{Refusal}
+use Rattle.rule.specs.Refusals.{numberOf}
+use Rattle.port.specs.declared.Port.{Port}
+use Rattle.port.proofs.Unique.{performs-unique, transmits-unique, steps-unique, looks-unique}
+use Rattle.history.specs.Calls.{Call, act, transmit, step, look, meant, run}
+use Rattle.history.specs.Outcomes.{Handed, Allowed, Event, callsOf, Kept, outcome}
+use Rattle.history.proofs.Given.{outcome-is}
+
+pub number-unique : (r : Refusal) (n m : ℕ) → n ≡ numberOf r → m ≡ numberOf r → n ≡ m
+number-unique r n m k l = k ∙ sym l
+
+pub handed-unique : (c : Call) (p : Port) (r s : Handed c) → Allowed c p r → Allowed c p s → r ≡ s
+handed-unique (act a) p r s k l = performs-unique (meant a) p r s k l
+handed-unique (transmit heads speed) p r s k l = transmits-unique heads speed p r s k l
+handed-unique (step goal instants octets) p r s k l =
+    let z = steps-unique p goal instants octets (r .result) (r .instants) (r .octets) (s .result) (s .instants) (s .octets) k l in
+    λ i. record { result = z .0 i; instants = z .1 .0 i; octets = z .1 .1 i }
+handed-unique (look t) p r s k l = looks-unique p t r s k l
+
+-- two programs that make the same calls
+pub outcome-unique : (p : Port) (es fs : List Event) → Kept p es → Kept p fs → callsOf es ≡ callsOf fs → outcome p es ≡ outcome p fs
+outcome-unique p es fs k l e = outcome-is p es k ∙ ap (λ cs. run cs p) e ∙ sym (outcome-is p fs l)

@@ -16,7 +16,7 @@ use Rattle.rule.specs.Machine.{Outcome, log}
 use Rattle.port.specs.declared.Port.{Port}
 use Rattle.port.specs.Coding.{decode}
 use Rattle.port.specs.Answers.{answerOf, choiceOf, lookedOf, steppedOf, writtenOf}
-use Rattle.port.specs.Walk.{into, instantsOf, octetsOf}
+use Rattle.port.specs.Step.{into, instantsOf, octetsOf}
 use Rattle.port.specs.Acts.{declines, after, lookDeclines}
 use Rattle.port.specs.Step.{stepDeclines, passes, reported, afterStep}
 use Rattle.history.specs.Calls.{Call, act, transmit, step, look, meant, room, leaves, reports, asked, performed, run}

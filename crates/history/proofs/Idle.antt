@@ -19,7 +19,7 @@ use Rattle.gatelist.specs.Coding.{Places}
 use Rattle.port.specs.declared.Port.{Port}
 use Rattle.port.specs.Record.{wellFormed}
 use Rattle.port.specs.Coding.{decode, encode}
-use Rattle.port.specs.Walk.{into, instantsOf, octetsOf}
+use Rattle.port.specs.Step.{into, instantsOf, octetsOf}
 use Rattle.port.specs.Acts.{declines, after}
 use Rattle.port.specs.Step.{stepDeclines, passes, reported, afterStep}
 use Rattle.port.proofs.Coding.{fine, decode-encode}

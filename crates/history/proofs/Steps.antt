@@ -28,7 +28,7 @@ use Rattle.port.specs.declared.StepAnswer.the-variants as answer
 use Rattle.port.specs.Record.{wellFormed}
 use Rattle.port.specs.Coding.{decode, encode}
 use Rattle.port.specs.Answers.{steppedOf}
-use Rattle.port.specs.Walk.{into}
+use Rattle.port.specs.Step.{into}
 use Rattle.port.specs.Step.{stepDeclines, passes, reported, afterStep}
 use Rattle.port.proofs.Coding.{decode-encode}
 use Rattle.history.specs.Calls.{step, room}

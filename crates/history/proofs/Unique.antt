@@ -1,20 +1,14 @@
 -- Each contract leaves one outcome: any two outcomes of a call of the port that its contract allows on one record are equal, buffers and all
--- (`handed-unique`); and so is what a program has in the end (`outcome-unique`). And `number` of crate `rule` (`number-unique`). The calls one by one are
--- in port/proofs/Unique and gatelist/proofs/Unique.
+-- (`handed-unique`); and so is what a program has in the end (`outcome-unique`). The calls one by one are in port/proofs/Unique and
+-- gatelist/proofs/Unique.
 -- Assumes nothing.
 use mathlib.Core.Path.{_≡_, ap, sym, _∙_}
 use mathlib.Core.List.{List}
-use Prim.Native.Nat.{ℕ}
-use Rattle.rule.specs.declared.Refusal.{Refusal}
-use Rattle.rule.specs.Refusals.{numberOf}
 use Rattle.port.specs.declared.Port.{Port}
 use Rattle.port.proofs.Unique.{performs-unique, transmits-unique, steps-unique, looks-unique}
 use Rattle.history.specs.Calls.{Call, act, transmit, step, look, meant, run}
 use Rattle.history.specs.Outcomes.{Handed, Allowed, Event, callsOf, Kept, outcome}
 use Rattle.history.proofs.Given.{outcome-is}
-
-pub number-unique : (r : Refusal) (n m : ℕ) → n ≡ numberOf r → m ≡ numberOf r → n ≡ m
-number-unique r n m k l = k ∙ sym l
 
 pub handed-unique : (c : Call) (p : Port) (r s : Handed c) → Allowed c p r → Allowed c p s → r ≡ s
 handed-unique (act a) p r s k l = performs-unique (meant a) p r s k l

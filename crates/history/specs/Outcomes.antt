@@ -2,7 +2,6 @@
 -- buffers after a step. Each is allowed by its contract on the record that the call before it left. What such a program has in the end is read off
 -- what was handed back: the last record, the changes in the written places of the buffers, call after call, the acts that were answered done.
 -- Assumes nothing.
-use mathlib.Core.Path.{_≡_}
 use mathlib.Core.List.{List, [], _∷_, _++_, map}
 use Prim.Native.Nat.{ℕ}
 use lib.ListN.{take}
@@ -15,13 +14,13 @@ use Rattle.port.specs.declared.Stepped.{Stepped}
 use Rattle.port.specs.declared.Answer.{Answer}
 use Rattle.port.specs.declared.Answer.the-variants as answer
 use Rattle.port.specs.Answers.{writtenOf}
-use Rattle.port.specs.Acts.{after, Performs, Looks}
+use Rattle.port.specs.Acts.{Performs, Looks}
 use Rattle.port.specs.declared.Transmitted.{Transmitted}
 use Rattle.port.specs.declared.Choice.{Choice}
 use Rattle.port.specs.declared.Choice.the-variants as choice
 use Rattle.port.specs.Transmit.{Transmits}
 use Rattle.port.specs.Step.{Steps}
-use Rattle.history.specs.Calls.{meant, Call, act, transmit, step, look, asked, performed}
+use Rattle.history.specs.Calls.{meant, Call, act, transmit, step, look}
 
 -- a step's answer and record, and the buffers after it
 pub record StepOutcome : Type 0 where

@@ -4,8 +4,8 @@ use mathlib.Core.Path.{_≡_, refl, ap, ap₂, sym, _∙_, subst}
 use mathlib.Core.Bool.{Bool, true, false, cond, not, _&&_, true≢false}
 use mathlib.Core.List.{List}
 use mathlib.Core.Option.{Option, none, some}
-use Prim.Native.Nat.{ℕ, zero, suc, _+_, _-_, _*_, _/_, _≤_, _<_, max}
-use native.Mathlib.Nat.{div-mul-le-self, le-div-iff-mul-le, mul-le-mul-left}
+use Prim.Native.Nat.{ℕ, zero, suc, _+_, _-_, _*_, _≤_, _<_, max}
+use native.Mathlib.Nat.{div-mul-le-self, le-div-iff-mul-le}
 use native.Mathlib.Omega.{arith}
 use lib.Dec.{eqb, leb}
 use lib.ListN.{getD}
@@ -13,6 +13,7 @@ use borrow.Author.Tests.{leb-true, leb-false, eqb-true, eqb-false}
 use Rattle.rule.specs.Limits.{longestFrame, longestSpan}
 use Rattle.rule.specs.Gates.{isOpen}
 use Rattle.rule.specs.Choice.{duration, staysOpen, qualifies, highest, frameFor, chosen}
+use Rattle.rule.proofs.Sound.{duration-short}
 use Rattle.rule.proofs.Choice.{speed-range, Highest, highest-is}
 use Rattle.port.specs.Ahead.{never, ClosesAt, Closes}
 use Rattle.port.specs.declared.choosing.Found.{Found}
@@ -25,12 +26,7 @@ use Rattle.port.proofs.Octets.{forms-at}
 
 pub duration-range : (n v : ℕ) → n ≤ longestFrame → 10 ≤ v → v ≤ 1_000 → (64 ≤ duration n v) × (duration n v ≤ longestSpan)
 unfolding duration
-duration-range n v h k l =
-    let q : ℕ = (n + 8) * 8_000 / v in
-    let a : q * v ≤ (n + 8) * 8_000 = div-mul-le-self ((n + 8) * 8_000) v in
-    let b : q * 10 ≤ q * v = mul-le-mul-left q k in
-    let pos : 0 < v = omega arith in
-    (le-div-iff-mul-le pos .1 (omega arith), omega arith)
+duration-range n v h k l = let pos : 0 < v = omega arith in (le-div-iff-mul-le pos .1 (omega arith), duration-short n v h k)
 
 pub duration-mono : (m n v : ℕ) → m ≤ n → 0 < v → duration m v ≤ duration n v
 unfolding duration

@@ -18,7 +18,8 @@ use Rattle.rule.proofs.Jump.{meets-none}
 use Rattle.rule.proofs.Walk.{First, ReadBack, read-back, shutIn, meets-more, meets-later, meets-ended}
 use Rattle.port.specs.declared.Frame as record-frame
 use Rattle.port.specs.Coding.{present, decodeFrame}
-use Rattle.port.specs.Walk.{into, Journey, Walks, MetBy}
+use Rattle.port.specs.Walk.{Journey, Walks, MetBy}
+use Rattle.port.specs.Step.{into}
 
 -- a place of a column of the changes l that was written
 getD-into : (f : ℕ × ℕ → ℕ) (l : List (ℕ × ℕ)) (buf now : List ℕ) (i : ℕ) → now ≡ into (map f l) buf → i < length l → getD now i 0 ≡ f (getD l i (0, 0))

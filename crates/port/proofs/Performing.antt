@@ -1,7 +1,7 @@
 -- Each way out of an act and of `new`. In order: an act that is malformed, refused or done; what each act makes of the record; a new port.
 -- Assumes nothing.
 use mathlib.Core.Path.{_≡_, refl, ap, sym, _∙_}
-use mathlib.Core.Bool.{Bool, true, false, true≢false}
+use mathlib.Core.Bool.{true, false, true≢false}
 use mathlib.Core.Option.{Option, none, some}
 use Prim.Native.Nat.{ℕ, _≤_, _<_}
 use borrow.Author.Tests.{lt-ltb, le-ltb}
@@ -11,9 +11,8 @@ use Rattle.rule.specs.declared.Refusal.the-variants.{MalformedPort, AboveLarges
 use Rattle.rule.specs.Refusals.{firstOf, accepted}
 use Rattle.rule.specs.Acts.{Act, on, off, standing, performed, perform}
 use Rattle.rule.specs.Orders.{actOrder, newOrder, accepts}
-use Rattle.rule.specs.Sound.{SoundFrame, Sound}
 use Rattle.rule.specs.Port as model
-use Rattle.rule.proofs.Sound.{sound-perform}
+use Rattle.rule.proofs.Sound.{performed-sound}
 use Rattle.port.specs.declared.Port.{Port}
 use Rattle.port.specs.declared.Answer.the-variants.{Done, Refused}
 use Rattle.port.specs.declared.Acted.{Acted}
@@ -25,24 +24,6 @@ use Rattle.port.specs.Updates.{withGates, cleared}
 use Rattle.port.proofs.Coding.{decode-encode, encoded-fine}
 
 -- an act
-
--- the port before the overrun test is as sound as after it
-unmarked-sound : (t : ℕ) (b : Bool) (f : Option model.Frame) → SoundFrame t (model.marked b f) → SoundFrame t f
-unmarked-sound t b none s = tt
-unmarked-sound t true (some f) s = record { class = s .class; begun = s .begun; before = s .before; short = s .short }
-unmarked-sound t false (some f) s = s
-
-performed-sound : (a : Act) (m : model.Port) → accepts a m ≡ true → Sound m → Sound (performed a m)
-unfolding perform
-performed-sound a m e s =
-    let z : Sound (model.tested (performed a m)) = sound-perform a m e s in
-    record {
-      clock = z .clock;
-      idle = z .idle;
-      operating = z .operating;
-      waiting = z .waiting;
-      frame = unmarked-sound (performed a m .clock) (model.overran (model.shownNow (performed a m)) (performed a m .frame)) (performed a m .frame) (z .frame);
-    }
 
 accepted-none : (o : Option Refusal) → accepted o ≡ true → o ≡ none
 accepted-none none e = refl

@@ -24,7 +24,8 @@ use Rattle.port.specs.declared.StepAnswer.the-variants as stepped
 use Rattle.port.specs.Record.{wellFormed}
 use Rattle.port.specs.Coding.{decode, encode, Fine}
 use Rattle.port.specs.Updates.{withMark}
-use Rattle.port.specs.Walk.{into, instantsOf, octetsOf, Walks, journeyOf, Written, MetBy}
+use Rattle.port.specs.Walk.{Walks, journeyOf, Written, MetBy}
+use Rattle.port.specs.Step.{into, instantsOf, octetsOf}
 use Rattle.port.specs.Step.{stepDeclines, passes, reported, afterStep, StepsBy, Steps, ArrivesBy, Arrives}
 use Rattle.port.proofs.Moving.{due-ticks}
 

@@ -3,16 +3,14 @@
 -- Assumes nothing.
 use mathlib.Core.Path.{_≡_, refl, ap, sym, _∙_}
 use mathlib.Core.Bool.{Bool, true, false, cond, not, _&&_, _||_, true≢false}
-use mathlib.Core.List.{List, [], _∷_}
+use mathlib.Core.List.{List}
 use mathlib.Core.Option.{Option, none, some}
-use Prim.Native.Nat.{ℕ, zero, suc, _+_, _-_, _≤_, _<_}
+use Prim.Native.Nat.{ℕ, suc, _+_, _-_, _≤_, _<_}
 use native.Mathlib.Numerals.{add-one}
 use native.Mathlib.Omega.{arith}
 use lib.Dec.{eqb, leb}
 use lib.ListN.{length, getD, drop, drop-of-length-le}
 use lib.Seq.{drop-cons}
-use borrow.Author.Tests.{eqb-true, leb-true}
-use Rattle.rule.specs.Limits.{shortestFrame, longestFrame}
 use Rattle.rule.specs.Gates.{isOpen}
 use Rattle.rule.specs.declared.Refusal.{Refusal}
 use Rattle.rule.specs.Port as model
@@ -22,7 +20,7 @@ use Rattle.rule.specs.Orders.{any, speedOffered, headOffered, transmitOrder, ac
 use Rattle.rule.proofs.Orders.{transmit-passed}
 use Rattle.rule.proofs.Choice.{Chosen, chosen-is}
 use Rattle.rule.proofs.Jump.{marked-no, counted-no}
-use Rattle.rule.proofs.Orders.{both}
+use Rattle.rule.proofs.Sound.{heads-short}
 use Rattle.port.specs.declared.Frame.{Frame}
 use Rattle.port.specs.declared.Port.{Port}
 use Rattle.port.specs.declared.Answer.{Answer}
@@ -88,24 +86,6 @@ module _ (heads : List ℕ) (speed : ℕ) (p : Port) where
       a ∙ rw (e, f, g) (sym (rw (mark-there (p .frame .present) (decodeFrame (p .frame)))))
 
 -- what is offered once the call is accepted
-
-head-short : (n : ℕ) → headOffered n ≡ true → n ≤ longestFrame
-unfolding headOffered
-head-short n = go (eqb n 0) refl
-  where
-    go : (b : Bool) → eqb n 0 ≡ b → cond b true (leb shortestFrame n && leb n longestFrame) ≡ true → n ≤ longestFrame
-    go true q h = let z = eqb-true n 0 q in omega arith
-    go false q h = leb-true n longestFrame (both (leb shortestFrame n) (leb n longestFrame) h .1)
-
-heads-short : (l : List ℕ) → any (λ n. not (headOffered n)) l ≡ false → (k : ℕ) → getD l k 0 ≤ longestFrame
-heads-short [] e k = omega arith
-heads-short (n ∷ l) e k = go (headOffered n) refl e k (λ z j. heads-short l z j)
-  where
-    go : (b : Bool) → headOffered n ≡ b → cond (not b) true (any (λ n. not (headOffered n)) l) ≡ false → (k : ℕ)
-        → (any (λ n. not (headOffered n)) l ≡ false → (j : ℕ) → getD l j 0 ≤ longestFrame) → getD (n ∷ l) k 0 ≤ longestFrame
-    go false q e k f = absurd (true≢false e)
-    go true q e zero f = head-short n q
-    go true q e (suc k) f = f e k
 
 pub transmit-offered : (heads : List ℕ) (speed : ℕ) (m : model.Port) → accepts (transmit heads speed) m ≡ true → Offered heads speed
 transmit-offered heads speed m e =

@@ -14,7 +14,8 @@ use lib.Seq.{drop-cons, set-append-seam}
 use Rattle.rule.specs.History.{changes}
 use Rattle.rule.proofs.Walk.{reachBy, changes-same, reach-same, changes-more, reach-more, reach-full, reach-goal}
 use Rattle.port.specs.declared.walk.Walk.{Walk}
-use Rattle.port.specs.Walk.{into, instantsOf, octetsOf, Journey, room, Walked, Walks, Passes}
+use Rattle.port.specs.Walk.{Journey, room, Walked, Walks, Passes}
+use Rattle.port.specs.Step.{into, instantsOf, octetsOf}
 
 -- the buffers
 

@@ -5,10 +5,10 @@ pub mod Acts
 pub mod Updates
 pub mod Regime
 pub mod Submit
+pub mod Step
 pub mod Walk
 pub mod Cursor
 pub mod Stretch
-pub mod Step
 pub mod Ahead
 pub mod Choosing
 pub mod Transmit

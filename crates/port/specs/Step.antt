@@ -4,10 +4,10 @@
 -- Assumes nothing.
 use mathlib.Core.Path.{_≡_}
 use mathlib.Core.Bool.{cond}
-use mathlib.Core.List.{List}
+use mathlib.Core.List.{List, _++_, map}
 use mathlib.Core.Option.{Option}
 use Prim.Native.Nat.{ℕ, _-_, min}
-use lib.ListN.{length}
+use lib.ListN.{length, drop}
 use Rattle.rule.specs.declared.Refusal.{Refusal}
 use Rattle.rule.specs.Refusals.{accepted}
 use Rattle.rule.specs.Orders.{stepOrder}
@@ -19,8 +19,18 @@ use Rattle.port.specs.declared.StepAnswer.the-variants as stepped
 use Rattle.port.specs.Coding.{decode, encode}
 use Rattle.port.specs.Answers.{steppedOf}
 use Rattle.port.specs.Acts.{formedFirst}
-use Rattle.port.specs.Walk.{into, instantsOf, octetsOf}
 
+-- the values from place 0 on, and what stood behind them
+unfoldable pub into : List ℕ → List ℕ → List ℕ
+into vs buf = vs ++ drop (length vs) buf
+
+abbrev pub instantsOf : List (ℕ × ℕ) → List ℕ
+instantsOf l = map (λ (x : ℕ × ℕ). x .0) l
+
+abbrev pub octetsOf : List (ℕ × ℕ) → List ℕ
+octetsOf l = map (λ (x : ℕ × ℕ). x .1) l
+
+-- what a step declines with
 unfoldable pub stepDeclines : ℕ → Port → Option Refusal
 stepDeclines goal p = formedFirst p (stepOrder goal (decode p))
 

@@ -1,4 +1,5 @@
--- The records that the code makes of a record, field by field: private to the crate. What they mean for the port is in proofs/Acts and proofs/Submit.
+-- The records that the code makes of a record, field by field: private to the crate but for `withFrame`, which the promise of transmit names. What they mean for
+-- the port is in the law files of proofs/.
 -- Assumes nothing.
 use mathlib.Core.Bool.{Bool, true, false, cond, _&&_}
 use mathlib.Core.List.{List}

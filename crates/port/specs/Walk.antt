@@ -3,9 +3,9 @@
 -- Assumes nothing.
 use mathlib.Core.Path.{_≡_}
 use mathlib.Core.Bool.{Bool, true, false}
-use mathlib.Core.List.{List, _++_, map}
+use mathlib.Core.List.{List}
 use Prim.Native.Nat.{ℕ, _+_, _-_, _≤_, _<_, min}
-use lib.ListN.{length, drop}
+use lib.ListN.{length}
 use Rattle.rule.specs.History.{changes, meets}
 use Rattle.rule.proofs.Walk.{reachBy}
 use Rattle.rule.specs.Limits.{largestInstant}
@@ -15,17 +15,8 @@ use Rattle.port.specs.declared.Port.{Port}
 use Rattle.port.specs.declared.regime.Span.{Span}
 use Rattle.port.specs.declared.walk.Walk.{Walk}
 use Rattle.port.specs.Coding.{present, decodeFrame, decode}
+use Rattle.port.specs.Step.{into, instantsOf, octetsOf}
 use Rattle.port.specs.Regime.{timesOf, Governs}
-
--- the values from place 0 on, and what stood behind them
-unfoldable pub into : List ℕ → List ℕ → List ℕ
-into vs buf = vs ++ drop (length vs) buf
-
-abbrev pub instantsOf : List (ℕ × ℕ) → List ℕ
-instantsOf l = map (λ (x : ℕ × ℕ). x .0) l
-
-abbrev pub octetsOf : List (ℕ × ℕ) → List ℕ
-octetsOf l = map (λ (x : ℕ × ℕ). x .1) l
 
 -- a step: the function that it walks, the old clock, the goal, and what stood in the buffers
 pub record Journey : Type 0 where

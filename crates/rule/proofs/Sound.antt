@@ -131,7 +131,7 @@ head-short n e = go (eqb n 0) refl (not-false (cond (eqb n 0) true (leb shortest
     go true q h = let z = eqb-true n 0 q in omega arith
     go false q h = leb-true n longestFrame (both (leb shortestFrame n) (leb n longestFrame) h .1)
 
-heads-short : (l : List ℕ) → any (λ n. not (headOffered n)) l ≡ false → (k : ℕ) → getD l k 0 ≤ longestFrame
+pub heads-short : (l : List ℕ) → any (λ n. not (headOffered n)) l ≡ false → (k : ℕ) → getD l k 0 ≤ longestFrame
 heads-short [] e k = omega arith
 heads-short (n ∷ l) e k = go (not (headOffered n)) refl e k (λ z j. heads-short l z j)
   where
@@ -141,7 +141,7 @@ heads-short (n ∷ l) e k = go (not (headOffered n)) refl e k (λ z j. heads-sho
     go false q e zero f = head-short n q
     go false q e (suc k) f = f e k
 
-duration-short : (n v : ℕ) → n ≤ longestFrame → 10 ≤ v → duration n v ≤ longestSpan
+pub duration-short : (n v : ℕ) → n ≤ longestFrame → 10 ≤ v → duration n v ≤ longestSpan
 unfolding duration
 duration-short n v h k =
     let q : ℕ = (n + 8) * 8_000 / v in
@@ -163,7 +163,7 @@ frame-sound t heads v q (suc n) a b c h =
     })
     (λ _. frame-sound t heads v q n (omega arith) b c h)
 
-performed-sound : (a : Act) (p : Port) → accepts a p ≡ true → Sound p → Sound (performed a p)
+pub performed-sound : (a : Act) (p : Port) → accepts a p ≡ true → Sound p → Sound (performed a p)
 unfolding submitted chosen
 performed-sound on p e s =
     record { clock = s .clock; idle = λ z. absurd (true≢false z); operating = s .operating; waiting = s .waiting; frame = s .frame }

@@ -1,0 +1,198 @@
+/* bench CASE N: does CASE N times and prints a checksum. What each case sets
+ * up stands in README.md. Timing is left to the caller. */
+#include <inttypes.h>
+#include <stdio.h>
+#include <stdlib.h>
+#include <string.h>
+
+#include "port.h"
+
+#define ROOM 1024
+
+static struct port port;
+static struct port_list list;
+static uint8_t buffer[7 * PORT_PLACES];
+static uint64_t instants[ROOM];
+static uint8_t octets[ROOM];
+
+static void need(unsigned no)
+{
+    if (no != 0) {
+        fprintf(stderr, "bench: refused %u\n", no);
+        exit(1);
+    }
+}
+
+/* A port at 5,000 with standing FF, on, whose list of `length` entries of
+ * `interval` ns operates from 5,000. */
+static void set_up(uint64_t length, uint32_t interval, uint32_t numerator, uint32_t denominator)
+{
+    list.length = length;
+    for (uint64_t i = 0; i < length; i++)
+        list.intervals[i] = interval;
+    need(port_new(&port, 5000, 0xFF));
+    need(port_on(&port));
+    need(port_submit(&port, &list, numerator, denominator, 0, 5000));
+}
+
+static void octets_counting(void) /* 80, 81, .. FF: class 7 is always open */
+{
+    for (unsigned i = 0; i < PORT_PLACES; i++)
+        list.octets[i] = (uint8_t)(0x80 | i);
+}
+
+/* FF for 120 entries, then class 0, class 1, .. close one by one; those in
+ * `kept` stay open. */
+static void octets_closing(uint8_t kept)
+{
+    for (unsigned i = 0; i < PORT_PLACES; i++)
+        list.octets[i] = (uint8_t)(i < 120 ? 0xFF : ((0xFFu << (i - 119)) & 0xFF) | kept);
+}
+
+static uint64_t run_read(uint64_t times)
+{
+    uint64_t sum = 0;
+    size_t place, n;
+    octets_counting();
+    set_up(128, 1000, 128, 1000000);
+    need(port_list_write(&list, buffer, sizeof buffer, &n));
+    for (uint64_t i = 0; i < times; i++) {
+        need(port_list_read(128, buffer, sizeof buffer, &list, &place));
+        sum += list.octets[i % 128] + list.intervals[127];
+    }
+    return sum;
+}
+
+static uint64_t run_write(uint64_t times)
+{
+    uint64_t sum = 0;
+    size_t n;
+    octets_counting();
+    set_up(128, 1000, 128, 1000000);
+    for (uint64_t i = 0; i < times; i++) {
+        need(port_list_write(&list, buffer, sizeof buffer, &n));
+        sum += buffer[7 * (i % 128) + 2] + n;
+    }
+    return sum;
+}
+
+static uint64_t run_submit(uint64_t times)
+{
+    uint64_t sum = 0;
+    octets_counting();
+    set_up(128, 1000, 128, 1000000);
+    for (uint64_t i = 0; i < times; i++) {
+        need(port_submit(&port, &list, 128, 1000000, 0, 5000));
+        sum += port.operating.list.octets[i % 128] + port.operating.start;
+    }
+    return sum;
+}
+
+static uint64_t run_look(uint64_t times)
+{
+    uint64_t sum = 0;
+    uint8_t octet = 0;
+    octets_counting();
+    set_up(128, 1000, 128, 1000000);
+    for (uint64_t i = 0; i < times; i++) {
+        need(port_look(&port, 5000 + i * 7919 % 1000000000, &octet));
+        sum += octet;
+    }
+    return sum;
+}
+
+static uint64_t run_steps(uint64_t times, uint64_t length_of_step)
+{
+    uint64_t sum = 0;
+    size_t n;
+    for (uint64_t i = 0; i < times; i++) {
+        need(port_step(&port, port.clock + length_of_step, instants, ROOM, octets, ROOM, &n));
+        sum += n + port.clock;
+        if (n > 0)
+            sum += instants[n - 1] + octets[n - 1];
+    }
+    return sum;
+}
+
+static uint64_t run_transmits(uint64_t times, uint64_t head, uint64_t speed)
+{
+    uint64_t sum = 0;
+    uint64_t heads[8];
+    for (unsigned k = 0; k < 8; k++)
+        heads[k] = head;
+    for (uint64_t i = 0; i < times; i++) {
+        need(port_transmit(&port, heads, speed));
+        sum += port.frame.class + port.frame.end;
+        port.frame = (struct port_frame){0};
+    }
+    return sum;
+}
+
+static uint64_t run_check(uint64_t times)
+{
+    uint64_t sum = 0;
+    const uint64_t heads[8] = {64, 64, 64, 64, 64, 64, 64, 64};
+    octets_counting();
+    set_up(128, 1000, 128, 1000000);
+    need(port_submit(&port, &list, 128, 1000000, 0, 1000000));
+    need(port_transmit(&port, heads, 1000));
+    for (uint64_t i = 0; i < times; i++)
+        sum += port_check(&port) + i;
+    return sum;
+}
+
+int main(int argc, char **argv)
+{
+    if (argc != 3) {
+        fputs("usage: bench CASE N\n", stderr);
+        return 2;
+    }
+    const char *name = argv[1];
+    const uint64_t times = strtoull(argv[2], NULL, 10);
+    uint64_t sum;
+    if (strcmp(name, "read128") == 0) {
+        sum = run_read(times);
+    } else if (strcmp(name, "write128") == 0) {
+        sum = run_write(times);
+    } else if (strcmp(name, "submit") == 0) {
+        sum = run_submit(times);
+    } else if (strcmp(name, "look") == 0) {
+        sum = run_look(times);
+    } else if (strcmp(name, "step128") == 0) {
+        octets_counting();
+        set_up(128, 1000, 128, 1000000);
+        sum = run_steps(times, 1000000);
+    } else if (strcmp(name, "step2") == 0) {
+        list.octets[0] = 0x80;
+        list.octets[1] = 0x01;
+        set_up(2, 1000, 2, 1000000);
+        sum = run_steps(times, 1000000);
+    } else if (strcmp(name, "quiet") == 0) {
+        memset(list.octets, 0x80, sizeof list.octets);
+        set_up(128, 1, 128, 1000000000);
+        sum = run_steps(times, 1000000000);
+    } else if (strcmp(name, "quiet1") == 0) {
+        octets_counting();
+        set_up(128, 1, 1, 1000000000);
+        sum = run_steps(times, 1000000000);
+    } else if (strcmp(name, "transmit-first") == 0) {
+        octets_counting();
+        set_up(128, 125, 16, 1000000);
+        sum = run_transmits(times, 1500, 1000);
+    } else if (strcmp(name, "transmit-none") == 0) {
+        octets_closing(0x00);
+        set_up(128, 125, 16, 1000000);
+        sum = run_transmits(times, 2000, 1000);
+    } else if (strcmp(name, "transmit-10") == 0) {
+        octets_closing(0x80);
+        set_up(128, 125, 16, 1000000);
+        sum = run_transmits(times, 2000, 10);
+    } else if (strcmp(name, "check14") == 0) {
+        sum = run_check(times);
+    } else {
+        fputs("bench: no such case\n", stderr);
+        return 2;
+    }
+    printf("%s %" PRIu64 " checksum %" PRIu64 "\n", name, times, sum);
+    return 0;
+}

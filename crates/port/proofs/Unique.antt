@@ -1,10 +1,11 @@
 -- Each contract of a public call leaves one outcome: two outcomes that it allows for one input are equal. `on`, `off`, `standing` and `submit` have the
 -- contract `Performs`, `step` has `Steps`, `look` has `Looks`, `new` has `Makes`, `transmit` has
 -- `Transmits`. Only a step lends memory: its two buffers. And document 01's number,
--- with the value of an accepted call, tells an answer from every other of its kind (`answer-told`, `stepped-told`, `looked-told`).
+-- with the value of an accepted call, tells an answer from every other of its kind (`answer-told`,
+-- `stepped-told`, `looked-told`, `choice-told`).
 -- Assumes nothing.
 use mathlib.Core.Path.{_≡_, refl, ap, sym, _∙_}
-use mathlib.Core.List.{List}
+use mathlib.Core.List.{List, [], _∷_}
 use mathlib.Core.Option.{none, some}
 use Prim.Native.Nat.{ℕ}
 use native.Mathlib.Omega.{arith}
@@ -20,8 +21,10 @@ use Rattle.port.specs.declared.Stepped.{Stepped}
 use Rattle.port.specs.declared.StepAnswer.{StepAnswer}
 use Rattle.port.specs.declared.StepAnswer.the-variants as stepped
 use Rattle.port.specs.Step.{Steps}
-use Rattle.port.specs.Answers.{answerNumber, steppedNumber, writtenOf, lookedNumber, lookedOctet}
+use Rattle.port.specs.Answers.{answerNumber, choiceNumber, choiceValues, steppedNumber, writtenOf, lookedNumber, lookedOctet}
 use Rattle.port.specs.declared.Transmitted.{Transmitted}
+use Rattle.port.specs.declared.Choice.{Choice}
+use Rattle.port.specs.declared.Choice.the-variants as choice
 use Rattle.port.specs.Acts.{Performs, Looks, Makes}
 use Rattle.port.specs.Transmit.{Transmits}
 use Rattle.port.specs.declared.Answer.the-variants as answer
@@ -76,3 +79,21 @@ stepped-told (stepped.Written m) (stepped.Written n) e f = ap stepped.Written f
 stepped-told (stepped.Written m) (stepped.Refused q) e f = absurd (none-some (numberOf q) e)
 stepped-told (stepped.Refused q) (stepped.Written m) e f = absurd (none-some (numberOf q) (sym e))
 stepped-told (stepped.Refused q) (stepped.Refused p) e f = ap stepped.Refused (refusal-told q p e)
+
+no-frame : (a b c : ℕ) (l : List ℕ) → _≡_ {A = List ℕ} (0 ∷ l) (1 ∷ a ∷ b ∷ c ∷ []) → ⊥
+no-frame a b c l e = let z : _≡_ {A = ℕ} 0 1 = cc in omega arith
+
+pub choice-told : (r s : Choice) → choiceNumber r ≡ choiceNumber s → choiceValues r ≡ choiceValues s → r ≡ s
+choice-told (choice.Frame k a b) (choice.Frame j c d) e f =
+    let x : k ≡ j = cc in
+    let y : a ≡ c = cc in
+    let z : b ≡ d = cc in
+    λ i. choice.Frame (x i) (y i) (z i)
+choice-told (choice.Frame k a b) choice.Nothing e f = absurd (no-frame k a b (0 ∷ 0 ∷ 0 ∷ []) (sym f))
+choice-told (choice.Frame k a b) (choice.Refused q) e f = absurd (none-some (numberOf q) e)
+choice-told choice.Nothing (choice.Frame j c d) e f = absurd (no-frame j c d (0 ∷ 0 ∷ 0 ∷ []) f)
+choice-told choice.Nothing choice.Nothing e f = refl
+choice-told choice.Nothing (choice.Refused q) e f = absurd (none-some (numberOf q) e)
+choice-told (choice.Refused q) (choice.Frame j c d) e f = absurd (none-some (numberOf q) (sym e))
+choice-told (choice.Refused q) choice.Nothing e f = absurd (none-some (numberOf q) (sym e))
+choice-told (choice.Refused q) (choice.Refused p) e f = ap choice.Refused (refusal-told q p e)

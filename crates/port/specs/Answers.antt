@@ -1,6 +1,7 @@
 -- Document 01, 'Numbers returned when a call declines': what each kind of call of a port answers, from the refusal that its order chooses, and the
 -- number of each answer. No two answers of a kind have the same number and values (proofs/Unique).
 -- Assumes nothing.
+use mathlib.Core.List.{List, [], _∷_}
 use mathlib.Core.Option.{Option, none, some}
 use Prim.Native.Nat.{ℕ}
 use Rattle.rule.specs.declared.Refusal.{Refusal}
@@ -72,3 +73,9 @@ abbrev pub choiceNumber : Choice → Option ℕ
 choiceNumber (choice.Frame class start end) = none
 choiceNumber choice.Nothing = none
 choiceNumber (choice.Refused r) = some (numberOf r)
+
+-- what a transmit chose: 1 with class, start and end, or zeros
+abbrev pub choiceValues : Choice → List ℕ
+choiceValues (choice.Frame class start end) = 1 ∷ class ∷ start ∷ end ∷ []
+choiceValues choice.Nothing = 0 ∷ 0 ∷ 0 ∷ 0 ∷ []
+choiceValues (choice.Refused r) = 0 ∷ 0 ∷ 0 ∷ 0 ∷ []

@@ -1,0 +1,81 @@
+// What a call answers, put into the lent buffer from its first place on, and what it leaves.
+use port::Acted;
+use port::Answer;
+use port::Port;
+use rule::Refusal;
+
+// After a line: the port, how many octets of the buffer are the answer, and whether the line was a call.
+pub struct Held {
+    pub port: Port,
+    pub at: usize,
+    pub is_call: bool,
+}
+
+// A line that is no call changes nothing.
+pub fn no_call(p: Port) -> Held {
+    Held {
+        port: p,
+        at: 0,
+        is_call: false,
+    }
+}
+
+pub fn answered(p: Port, at: usize) -> Held {
+    Held {
+        port: p,
+        at,
+        is_call: true,
+    }
+}
+
+pub fn say_refused(out: &mut [u8], r: Refusal) -> usize {
+    let at = text::put(out, 0, b"refused ");
+    text::decimal(out, at, rule::number(r) as u64)
+}
+
+pub fn say_answer(out: &mut [u8], a: Answer) -> usize {
+    match a {
+        Answer::Done => text::put(out, 0, b"ok"),
+        Answer::Refused(r) => say_refused(out, r),
+    }
+}
+
+// An act's answer.
+pub fn acted(a: Acted, out: &mut [u8]) -> Held {
+    let p = a.port;
+    let x = a.answer;
+    let at = say_answer(out, x);
+    answered(p, at)
+}
+
+// `ok` and a count.
+pub fn say_count(out: &mut [u8], n: usize) -> usize {
+    let at = text::put(out, 0, b"ok");
+    text::spaced(out, at, n as u64)
+}
+
+// Instants, a space before each.
+pub fn say_instants(out: &mut [u8], at: usize, xs: &[u64]) -> usize {
+    let mut next = at;
+    let mut i: usize = 0;
+    while i < xs.len() {
+        next = text::spaced(out, next, xs[i]);
+        i = i + 1;
+    }
+    next
+}
+
+fn wide(x: u8) -> u64 {
+    x as u64
+}
+
+// Octets, a space before each.
+pub fn say_octets(out: &mut [u8], at: usize, xs: &[u8]) -> usize {
+    let mut next = at;
+    let mut i: usize = 0;
+    while i < xs.len() {
+        next = text::spaced(out, next, wide(xs[i]));
+        i = i + 1;
+    }
+    next
+}

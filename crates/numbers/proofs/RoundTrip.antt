@@ -5,16 +5,14 @@ use mathlib.Core.Path.{_≡_, refl, ap, sym, subst, _∙_}
 use mathlib.Core.Bool.{Bool, true, false, cond}
 use mathlib.Core.List.{List, [], _∷_, _++_}
 use Prim.Native.Nat.{ℕ, zero, suc, _+_, _-_, _*_, _/_, _%_, _^_, _≤_, _<_}
-use native.Mathlib.Numerals.{add-one}
 use native.Mathlib.Omega.{arith}
-use borrow.Author.Tests.{lt-ltb, le-ltb, le-leb, ne-eqb, ltb-true, ltb-false}
+use borrow.Author.Tests.{lt-ltb, le-ltb, ne-eqb, ltb-true, ltb-false}
 use lib.Dec.{ltb}
 use lib.ListN.{length, drop, take, getD}
 use lib.Seq.{drop-append-seam, getD-drop}
-use Rattle.numbers.specs.declared.Number.{Number}
-use Rattle.numbers.specs.declared.Number.the-variants.{Read, Malformed}
-use Rattle.numbers.specs.Groups.{octetsOf, joined, groupsAt, upTo, readUpTo, readNumber}
-use Rattle.numbers.proofs.Reading.{Joined, joined-read, groups-next, kept-read, kept-small}
+use Rattle.numbers.specs.declared.Number.the-variants.{Read}
+use Rattle.numbers.specs.Groups.{octetsOf, joined, groupsAt, upTo, readNumber}
+use Rattle.numbers.proofs.Reading.{joined-read, groups-next, kept-read, kept-small}
 use Rattle.numbers.proofs.Writing.{octets-last, octets-cons}
 
 -- what is written is read back

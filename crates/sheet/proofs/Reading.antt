@@ -1,7 +1,7 @@
 -- Laws of reading a sheet: for each number, what the sheet is where it is missing, and where it is there. In order: the first four numbers; the other four;
 -- the whole.
 -- Assumes nothing.
-use mathlib.Core.Path.{_≡_, ap, sym, _∙_}
+use mathlib.Core.Path.{_≡_, _∙_}
 use mathlib.Core.List.{List}
 use Prim.Native.Nat.{ℕ, _≤_, _<_}
 use borrow.Author.Tests.{lt-ltb, le-ltb}
@@ -11,7 +11,6 @@ use Rattle.numbers.specs.Groups.{readNumber}
 use Rattle.sheet.specs.declared.SheetRead.{SheetRead}
 use Rattle.sheet.specs.declared.SheetRead.the-variants as sheet
 use Rattle.sheet.specs.declared.head.Head.{Head}
-use Rattle.sheet.specs.declared.head.HeadRead.{HeadRead}
 use Rattle.sheet.specs.declared.head.HeadRead.the-variants as head
 use Rattle.sheet.specs.Sheet.{headOf, restOf, readSheet}
 

@@ -6,6 +6,8 @@ use mathlib.Core.List.{List}
 use Prim.Native.Nat.{ℕ}
 use lib.Dec.{ltb}
 use lib.ListN.{length}
+use Rattle.rule.specs.declared.Refusal.the-variants.{MalformedSheet}
+use Rattle.rule.specs.Refusals.{numberOf}
 use Rattle.numbers.specs.declared.Number.{Number}
 use Rattle.numbers.specs.declared.Number.the-variants as number
 use Rattle.numbers.specs.Groups.{readNumber}
@@ -54,3 +56,8 @@ andRest s (head.Good h) = restOf s h
 
 unfoldable pub readSheet : List ℕ → SheetRead
 readSheet s = cond (ltb 1024 (length s)) sheet.Malformed (andRest s (headOf s))
+
+-- document 01's number of an answer: 0 for a sheet that is read
+abbrev pub sheetNumber : SheetRead → ℕ
+sheetNumber sheet.Malformed = numberOf MalformedSheet
+sheetNumber (sheet.Good x) = 0

@@ -1,8 +1,8 @@
 // Text for people, in ASCII: octets and numbers put into a lent buffer at a place, and numbers taken from a line. Putting answers the next place; what does
 // not fit is left out, and the buffer and the place stay as they were.
 ghost use mathlib.Core.Path.{_≡_};
-ghost use Prim.Native.Nat.{_≤_, _<_};
-ghost use lib.ListN.{length};
+ghost use Prim.Native.Nat.{_<_};
+ghost use Rattle.text.specs.Decimal.{decimalOf};
 ghost use Rattle.text.specs.Put.{Puts, glyphOf, hexOf};
 
 mod scan;
@@ -60,7 +60,9 @@ pub fn hex(out: &mut [u8], at: usize, octet: u8) -> usize
 }
 
 // Puts a number in decimal.
-pub fn decimal(out: &mut [u8], at: usize, n: u64) -> usize {
+pub fn decimal(out: &mut [u8], at: usize, n: u64) -> usize
+    ensures { λ r. ⌜ Puts (decimalOf n) at (now (out .entry)) r (now (out .exit)) ⌝ }
+{
     let mut digits = [0u8; 20];
     let k = io::decimal(n, &mut digits);
     put(out, at, &digits[..k])

@@ -1,6 +1,5 @@
 -- `lister::strides` is safe and ends: the measure is the number of steps that are left.
 -- Assumes nothing.
-use native.Mathlib.Omega.{arith}
 use borrow.Author.Needs.{needs}
 use Rattle.lister.proofs.strides.Statement.{statement}
 use Rattle.lister.proofs.strides.Tie as tie

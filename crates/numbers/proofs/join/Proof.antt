@@ -1,6 +1,6 @@
 -- `numbers::join` meets its contract: a number of 0 after another octet is overlong; any other is joined and kept up to the largest.
 -- Assumes nothing.
-use mathlib.Core.Path.{_∙_, refl}
+use mathlib.Core.Path.{_∙_}
 use native.Mathlib.Omega.{arith}
 use Rattle.numbers.proofs.Reading.{join-zero, join-some}
 use borrow.Author.Needs.{needs}

@@ -2,7 +2,6 @@
 -- Assumes nothing.
 use native.Mathlib.Omega.{arith}
 use Rattle.numbers.proofs.Reading.{kept-small, kept-large}
-use borrow.Author.Needs.{needs}
 use Rattle.numbers.proofs.kept.Statement.{statement}
 use Rattle.numbers.proofs.kept.Tie as tie
 

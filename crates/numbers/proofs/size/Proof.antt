@@ -1,7 +1,7 @@
 -- `numbers::size` meets its contract: the loop's invariant is that k octets and those of the rest, less one, are the number's; the measure is the rest.
 -- Assumes nothing.
 use mathlib.Core.Path.{_≡_}
-use Prim.Native.Nat.{ℕ, _+_, _≤_}
+use Prim.Native.Nat.{_+_, _≤_}
 use native.Mathlib.Omega.{arith}
 use lib.ListN.{length}
 use Rattle.numbers.specs.Groups.{octetsOf}

@@ -1,6 +1,5 @@
 -- `text::glyph` meets its contract: the test is the definition's.
 -- Assumes nothing.
-use native.Mathlib.Omega.{arith}
 use borrow.Author.Tests.{lt-ltb, le-ltb}
 use borrow.Author.Needs.{needs}
 use Rattle.text.proofs.glyph.Statement.{statement}

@@ -1,6 +1,5 @@
 -- `text::put` meets its contract: the loop's invariant is that i octets are copied; the measure is what is left of them.
 -- Assumes nothing.
-use mathlib.Core.Path.{sym}
 use Prim.Native.Nat.{_-_}
 use native.Mathlib.Omega.{arith}
 use lib.ListN.{length}

@@ -3,7 +3,6 @@
 use mathlib.Core.Path.{_≡_}
 use Prim.Native.Nat.{_-_}
 use lib.ListN.{length}
-use native.Mathlib.Omega.{arith}
 use borrow.Author.Needs.{needs}
 use Rattle.console.proofs.input.answer_lines.Statement.{statement}
 use Rattle.console.proofs.input.answer_lines.Tie as tie

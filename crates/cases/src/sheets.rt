@@ -1,0 +1,648 @@
+// Sheets, and what the listing program writes for each: that of document 01, and damaged ones.
+
+// A sheet's title and its listing.
+fn show(title: &[u8], octets: &[u8]) {
+    io::write_all(1, title);
+    io::write_all(1, b"\n");
+    lister::list(octets);
+}
+
+fn sheet_1() {
+    show(
+        b"# the sheet of document 01",
+        &[
+            0xff,
+            0x01,
+            0x01,
+            0xc0,
+            0x84,
+            0x3d,
+            0x00,
+            0x88,
+            0x27,
+            0xa4,
+            0x26,
+            0x9c,
+            0x31,
+            0x02,
+            0x00,
+            0x05,
+            0x80,
+            0x00,
+            0x00,
+            0x01,
+            0x2c,
+            0x00,
+            0x05,
+            0x01,
+            0x00,
+            0x00,
+            0x01,
+            0xf4,
+        ],
+    );
+}
+
+fn sheet_2() {
+    show(
+        b"# 1: the list ends inside its second entry",
+        &[
+            0xff,
+            0x01,
+            0x01,
+            0xc0,
+            0x84,
+            0x3d,
+            0x00,
+            0x88,
+            0x27,
+            0xa4,
+            0x26,
+            0x9c,
+            0x31,
+            0x02,
+            0x00,
+            0x05,
+            0x80,
+            0x00,
+            0x00,
+            0x01,
+            0x2c,
+            0x00,
+            0x05,
+            0x01,
+            0x00,
+            0x00,
+            0x01,
+        ],
+    );
+}
+
+fn sheet_3() {
+    show(
+        b"# 2: an operation of 1",
+        &[
+            0xff,
+            0x01,
+            0x01,
+            0xc0,
+            0x84,
+            0x3d,
+            0x00,
+            0x88,
+            0x27,
+            0xa4,
+            0x26,
+            0x9c,
+            0x31,
+            0x02,
+            0x01,
+            0x05,
+            0x80,
+            0x00,
+            0x00,
+            0x01,
+            0x2c,
+            0x00,
+            0x05,
+            0x01,
+            0x00,
+            0x00,
+            0x01,
+            0xf4,
+        ],
+    );
+}
+
+fn sheet_4() {
+    show(
+        b"# 3: a length octet of 6",
+        &[
+            0xff,
+            0x01,
+            0x01,
+            0xc0,
+            0x84,
+            0x3d,
+            0x00,
+            0x88,
+            0x27,
+            0xa4,
+            0x26,
+            0x9c,
+            0x31,
+            0x02,
+            0x00,
+            0x06,
+            0x80,
+            0x00,
+            0x00,
+            0x01,
+            0x2c,
+            0x00,
+            0x05,
+            0x01,
+            0x00,
+            0x00,
+            0x01,
+            0xf4,
+        ],
+    );
+}
+
+fn sheet_5() {
+    show(
+        b"# 4: an interval of 0",
+        &[
+            0xff,
+            0x01,
+            0x01,
+            0xc0,
+            0x84,
+            0x3d,
+            0x00,
+            0x88,
+            0x27,
+            0xa4,
+            0x26,
+            0x9c,
+            0x31,
+            0x02,
+            0x00,
+            0x05,
+            0x80,
+            0x00,
+            0x00,
+            0x00,
+            0x00,
+            0x00,
+            0x05,
+            0x01,
+            0x00,
+            0x00,
+            0x01,
+            0xf4,
+        ],
+    );
+}
+
+fn sheet_6() {
+    show(
+        b"# 5: a stated length of 0",
+        &[
+            0xff,
+            0x01,
+            0x01,
+            0xc0,
+            0x84,
+            0x3d,
+            0x00,
+            0x88,
+            0x27,
+            0xa4,
+            0x26,
+            0x9c,
+            0x31,
+            0x00,
+            0x00,
+            0x05,
+            0x80,
+            0x00,
+            0x00,
+            0x01,
+            0x2c,
+            0x00,
+            0x05,
+            0x01,
+            0x00,
+            0x00,
+            0x01,
+            0xf4,
+        ],
+    );
+}
+
+fn sheet_7() {
+    show(
+        b"# 5: an octet remains behind the list",
+        &[
+            0xff,
+            0x01,
+            0x01,
+            0xc0,
+            0x84,
+            0x3d,
+            0x00,
+            0x88,
+            0x27,
+            0xa4,
+            0x26,
+            0x9c,
+            0x31,
+            0x02,
+            0x00,
+            0x05,
+            0x80,
+            0x00,
+            0x00,
+            0x01,
+            0x2c,
+            0x00,
+            0x05,
+            0x01,
+            0x00,
+            0x00,
+            0x01,
+            0xf4,
+            0x00,
+        ],
+    );
+}
+
+fn sheet_8() {
+    show(
+        b"# 8: a cycle of 1/3 s",
+        &[
+            0xff,
+            0x01,
+            0x01,
+            0x03,
+            0x00,
+            0x88,
+            0x27,
+            0xa4,
+            0x26,
+            0x9c,
+            0x31,
+            0x02,
+            0x00,
+            0x05,
+            0x80,
+            0x00,
+            0x00,
+            0x01,
+            0x2c,
+            0x00,
+            0x05,
+            0x01,
+            0x00,
+            0x00,
+            0x01,
+            0xf4,
+        ],
+    );
+}
+
+fn sheet_9() {
+    show(
+        b"# 9: a start above the largest instant",
+        &[
+            0xff,
+            0x01,
+            0x01,
+            0xc0,
+            0x84,
+            0x3d,
+            0x00,
+            0x88,
+            0x27,
+            0x81,
+            0x80,
+            0x90,
+            0x94,
+            0x8e,
+            0x8a,
+            0x9b,
+            0xf3,
+            0x7c,
+            0x9c,
+            0x31,
+            0x02,
+            0x00,
+            0x05,
+            0x80,
+            0x00,
+            0x00,
+            0x01,
+            0x2c,
+            0x00,
+            0x05,
+            0x01,
+            0x00,
+            0x00,
+            0x01,
+            0xf4,
+        ],
+    );
+}
+
+fn sheet_10() {
+    show(
+        b"# 9: a base above the largest instant",
+        &[
+            0xff,
+            0x01,
+            0x01,
+            0xc0,
+            0x84,
+            0x3d,
+            0x00,
+            0x81,
+            0x80,
+            0x90,
+            0x94,
+            0x8e,
+            0x8a,
+            0x9b,
+            0xf3,
+            0x7c,
+            0xa4,
+            0x26,
+            0x9c,
+            0x31,
+            0x02,
+            0x00,
+            0x05,
+            0x80,
+            0x00,
+            0x00,
+            0x01,
+            0x2c,
+            0x00,
+            0x05,
+            0x01,
+            0x00,
+            0x00,
+            0x01,
+            0xf4,
+        ],
+    );
+}
+
+fn sheet_11() {
+    show(
+        b"# 9: an end above the largest instant",
+        &[
+            0xff,
+            0x01,
+            0x01,
+            0xc0,
+            0x84,
+            0x3d,
+            0x00,
+            0x88,
+            0x27,
+            0xa4,
+            0x26,
+            0x81,
+            0x80,
+            0x90,
+            0x94,
+            0x8e,
+            0x8a,
+            0x9b,
+            0xf3,
+            0x7c,
+            0x02,
+            0x00,
+            0x05,
+            0x80,
+            0x00,
+            0x00,
+            0x01,
+            0x2c,
+            0x00,
+            0x05,
+            0x01,
+            0x00,
+            0x00,
+            0x01,
+            0xf4,
+        ],
+    );
+}
+
+fn sheet_12() {
+    show(
+        b"# 10: an end before the start",
+        &[
+            0xff,
+            0x01,
+            0x01,
+            0xc0,
+            0x84,
+            0x3d,
+            0x00,
+            0x88,
+            0x27,
+            0xa4,
+            0x26,
+            0xa3,
+            0x26,
+            0x02,
+            0x00,
+            0x05,
+            0x80,
+            0x00,
+            0x00,
+            0x01,
+            0x2c,
+            0x00,
+            0x05,
+            0x01,
+            0x00,
+            0x00,
+            0x01,
+            0xf4,
+        ],
+    );
+}
+
+fn sheet_13() {
+    show(
+        b"# 11: a span of 1,000,000,001 ns",
+        &[
+            0xff,
+            0x01,
+            0x01,
+            0xc0,
+            0x84,
+            0x3d,
+            0x00,
+            0x88,
+            0x27,
+            0xa4,
+            0x26,
+            0xa5,
+            0xba,
+            0xeb,
+            0xdc,
+            0x03,
+            0x02,
+            0x00,
+            0x05,
+            0x80,
+            0x00,
+            0x00,
+            0x01,
+            0x2c,
+            0x00,
+            0x05,
+            0x01,
+            0x00,
+            0x00,
+            0x01,
+            0xf4,
+        ],
+    );
+}
+
+fn sheet_14() {
+    show(
+        b"# 15: the number 0 as 80 00",
+        &[
+            0xff,
+            0x01,
+            0xc0,
+            0x84,
+            0x3d,
+            0x80,
+            0x00,
+            0x00,
+            0x88,
+            0x27,
+            0xa4,
+            0x26,
+            0x9c,
+            0x31,
+            0x02,
+            0x00,
+            0x05,
+            0x80,
+            0x00,
+            0x00,
+            0x01,
+            0x2c,
+            0x00,
+            0x05,
+            0x01,
+            0x00,
+            0x00,
+            0x01,
+            0xf4,
+        ],
+    );
+}
+
+fn sheet_15() {
+    show(
+        b"# 15: a standing octet of 256",
+        &[
+            0x80,
+            0x02,
+            0x01,
+            0xc0,
+            0x84,
+            0x3d,
+            0x00,
+            0x88,
+            0x27,
+            0xa4,
+            0x26,
+            0x9c,
+            0x31,
+            0x02,
+            0x00,
+            0x05,
+            0x80,
+            0x00,
+            0x00,
+            0x01,
+            0x2c,
+            0x00,
+            0x05,
+            0x01,
+            0x00,
+            0x00,
+            0x01,
+            0xf4,
+        ],
+    );
+}
+
+fn sheet_16() {
+    show(
+        b"# 15: cut short inside the end",
+        &[
+            0xff,
+            0x01,
+            0x01,
+            0xc0,
+            0x84,
+            0x3d,
+            0x00,
+            0x88,
+            0x27,
+            0xa4,
+            0x26,
+        ],
+    );
+}
+
+fn sheet_17() {
+    show(
+        b"# 11 and 8: the cycle is refused first",
+        &[
+            0xff,
+            0x01,
+            0x01,
+            0x03,
+            0x00,
+            0x88,
+            0x27,
+            0xa4,
+            0x26,
+            0xa5,
+            0xba,
+            0xeb,
+            0xdc,
+            0x03,
+            0x02,
+            0x00,
+            0x05,
+            0x80,
+            0x00,
+            0x00,
+            0x01,
+            0x2c,
+            0x00,
+            0x05,
+            0x01,
+            0x00,
+            0x00,
+            0x01,
+            0xf4,
+        ],
+    );
+}
+
+// All of them.
+pub fn sheets() {
+    sheet_1();
+    sheet_2();
+    sheet_3();
+    sheet_4();
+    sheet_5();
+    sheet_6();
+    sheet_7();
+    sheet_8();
+    sheet_9();
+    sheet_10();
+    sheet_11();
+    sheet_12();
+    sheet_13();
+    sheet_14();
+    sheet_15();
+    sheet_16();
+    sheet_17();
+}

@@ -136,8 +136,9 @@ static uint64_t run_check(uint64_t times)
     set_up(128, 1000, 128, 1000000);
     need(port_submit(&port, &list, 128, 1000000, 0, 1000000));
     need(port_transmit(&port, heads, 1000));
+    uint8_t octet = 0;
     for (uint64_t i = 0; i < times; i++)
-        sum += port_check(&port) + i;
+        sum += port_look(&port, PORT_LAST_INSTANT + 1 + i, &octet);
     return sum;
 }
 

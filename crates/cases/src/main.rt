@@ -1,9 +1,10 @@
 // Worked runs: document 01's bench cases that are run and not proved, and a sheet for each refusal that a sheet can meet. What is written is compared with
 // crates/cases/stdout.
-mod bench;
 mod sheets;
+mod worked;
 
 fn main() {
-    bench::case_12();
+    worked::case_11();
+    worked::case_12();
     sheets::sheets();
 }

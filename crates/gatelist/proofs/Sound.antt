@@ -5,7 +5,7 @@ use mathlib.Core.Path.{_≡_, refl, ap, sym, _∙_}
 use mathlib.Core.Bool.{Bool, true, false, cond, not, _&&_, _||_, true≢false}
 use mathlib.Core.Logic.{_⊎_, inl, inr}
 use mathlib.Core.List.{List, map}
-use Prim.Native.Nat.{ℕ, zero, suc, _+_, _≤_, _<_, min}
+use Prim.Native.Nat.{ℕ, zero, suc, _+_, _-_, _≤_, _<_, min}
 use native.Mathlib.Nat.{add-zero, add-suc, suc-add, zero-add, eq-or-lt-of-le, lt-of-not-le}
 use native.Mathlib.Numerals.{add-one}
 use native.Mathlib.Omega.{arith}
@@ -17,7 +17,7 @@ use Rattle.rule.proofs.Orders.{both}
 use Rattle.rule.specs.Orders.{lengthOffered, hasZeroInterval}
 use Rattle.gatelist.specs.declared.GateList.{GateList}
 use Rattle.gatelist.specs.Coding.{listFrom, entryOf, listOf, padded, encodeList, emptyList, cleanedList, Places}
-use Rattle.gatelist.specs.Sound.{everyBelow, placeOk, placesOk, listOk, listNone, usedOk}
+use Rattle.gatelist.specs.Sound.{everyBelow, placeOk, placesOk, listOk, listNone, listFormed, usedOk, restOk}
 use Rattle.gatelist.proofs.Coding.{list-decoded, padded-out, cleaned-encoded, cleaned-same}
 
 -- tests
@@ -32,6 +32,10 @@ same-false true true f g = refl
 same-false true false f g = g refl
 same-false false true f g = sym (f refl)
 same-false false false f g = refl
+
+pub twice : (b : Bool) → not (not b) ≡ b
+twice true = refl
+twice false = refl
 
 module _ (p : ℕ → Bool) where
   -- a loop's next turn
@@ -53,38 +57,98 @@ module _ (p : ℕ → Bool) where
   every-all zero f = refl
   every-all (suc n) f = rw (every-all n (λ k h. f k (omega arith)), f n (omega arith))
 
--- whether place i is used, by a count and a length cut to 128
-pub used-capped : (i k m n : ℕ) → k ≡ i → i < 128 → m ≡ min n 128 → ltb k m ≡ ltb i n
-used-capped i k m n q h e = go (ltb i n) refl
-  where
-    go : (b : Bool) → ltb i n ≡ b → ltb k m ≡ b
-    go true t = lt-ltb k m (omega (arith, ltb-true i n t))
-    go false t = le-ltb k m (omega (arith, ltb-false i n t))
-
--- the tests of a place, as they are made without a branch
-module _ (os is : List ℕ) (n k : ℕ) (used : Bool) (e : used ≡ ltb k n) where
-  pub place-test : (used && not (eqb (getD is k 0) 0)) || (not used && (eqb (getD is k 0) 0 && eqb (getD os k 0) 0)) ≡ placeOk os is n k
-  unfolding placeOk
-  place-test =
-      choose used _ _ ∙ ap (λ b. cond b (not (eqb (getD is k 0) 0)) (eqb (getD is k 0) 0 && eqb (getD os k 0) 0)) e
+  -- the tests from n on hold of themselves
+  pub every-end : (n m : ℕ) → n ≤ m → ((k : ℕ) → n ≤ k → k < m → p k ≡ true) → everyBelow p n ≡ everyBelow p m
+  unfolding everyBelow
+  every-end n m l f =
+      let e : m ≡ n + (m - n) = omega arith in
+      go (m - n) (λ k h q. f k h (omega arith)) ∙ ap (everyBelow p) (sym e)
     where
-      choose : (b x y : Bool) → (b && x) || (not b && y) ≡ cond b x y
-      choose true true y = refl
-      choose true false y = refl
-      choose false x y = refl
+      go : (d : ℕ) → ((k : ℕ) → n ≤ k → k < n + d → p k ≡ true) → everyBelow p n ≡ everyBelow p (n + d)
+      go zero f = ap (everyBelow p) (sym (add-zero n))
+      go (suc d) f = go d (λ k h q. f k h (omega arith)) ∙ sym (ap (everyBelow p) (add-suc n d) ∙ keep (everyBelow p (n + d)) (p (n + d)) (f (n + d) (omega arith) (omega arith)))
+        where
+          keep : (a b : Bool) → b ≡ true → a && b ≡ a
+          keep true b e = e
+          keep false b e = refl
 
-  pub used-test : not (used && eqb (getD is k 0) 0) ≡ usedOk is n k
+-- three tests at each place are three rounds of tests
+pub every-three : (p q r : ℕ → Bool) (n : ℕ) → everyBelow (λ k. p k && (q k && r k)) n ≡ everyBelow p n && (everyBelow q n && everyBelow r n)
+unfolding everyBelow
+every-three p q r zero = refl
+every-three p q r (suc n) = ap (λ b. b && (p n && (q n && r n))) (every-three p q r n) ∙ shuffle (everyBelow p n) (everyBelow q n) (everyBelow r n) (p n) (q n) (r n)
+  where
+    shuffle : (a b c x y z : Bool) → (a && (b && c)) && (x && (y && z)) ≡ (a && x) && ((b && y) && (c && z))
+    shuffle false b c x y z = refl
+    shuffle true false c false y z = refl
+    shuffle true false c true y z = refl
+    shuffle true true false false y z = refl
+    shuffle true true false true false z = refl
+    shuffle true true false true true z = refl
+    shuffle true true true x y z = refl
+
+pub every-same : (p q : ℕ → Bool) (n : ℕ) → ((k : ℕ) → p k ≡ q k) → everyBelow p n ≡ everyBelow q n
+unfolding everyBelow
+every-same p q zero f = refl
+every-same p q (suc n) f = rw (every-same p q n f, f n)
+
+-- a place by its three tests
+pub places-three : (os is : List ℕ) (n m : ℕ) → everyBelow (usedOk is n) m && (everyBelow (restOk is n) m && everyBelow (restOk os n) m) ≡ everyBelow (placeOk os is n) m
+unfolding usedOk restOk placeOk
+places-three os is n m =
+    sym (every-three (usedOk is n) (restOk is n) (restOk os n) m)
+    ∙ every-same (λ k. usedOk is n k && (restOk is n k && restOk os n k)) (placeOk os is n) m place
+  where
+    three : (a z o : Bool) → not (a && z) && ((a || z) && (a || o)) ≡ cond a (not z) (z && o)
+    three true true o = refl
+    three true false o = refl
+    three false z o = refl
+
+    place : (k : ℕ) → usedOk is n k && (restOk is n k && restOk os n k) ≡ placeOk os is n k
+    place k = three (ltb k n) (eqb (getD is k 0) 0) (eqb (getD os k 0) 0)
+
+-- the used places: each turn of a loop over them, and the places behind them
+module _ (is : List ℕ) (n : ℕ) where
+  pub used-more : (i : ℕ) (found : Bool) → found ≡ not (everyBelow (usedOk is n) i) → i < n → found || eqb (getD is i 0) 0 ≡ not (everyBelow (usedOk is n) (i + 1))
+  unfolding everyBelow usedOk
+  used-more i found e h = rw (add-one, e, lt-ltb i n h) (turn (everyBelow (usedOk is n) i) (eqb (getD is i 0) 0))
+    where
+      turn : (a b : Bool) → not a || b ≡ not (a && not b)
+      turn true true = refl
+      turn true false = refl
+      turn false b = refl
+
+  pub used-end : (m : ℕ) → m ≡ min n 128 → everyBelow (usedOk is n) m ≡ everyBelow (usedOk is n) 128
   unfolding usedOk
-  used-test = ap (λ b. not (b && eqb (getD is k 0) 0)) e
+  used-end m e = every-end (usedOk is n) m 128 (omega arith) (λ k h l. free k (omega arith))
+    where
+      free : (k : ℕ) → n ≤ k → usedOk is n k ≡ true
+      free k h = rw (le-ltb k n h)
+
+-- the unused places likewise
+module _ (xs : List ℕ) (n : ℕ) where
+  pub rest-start : (m : ℕ) → m ≡ min n 128 → true ≡ everyBelow (restOk xs n) m
+  unfolding restOk
+  rest-start m e = sym (every-all (restOk xs n) m (λ k h. free k (omega arith)))
+    where
+      free : (k : ℕ) → k < n → restOk xs n k ≡ true
+      free k h = rw (lt-ltb k n h)
+
+  pub rest-more : (i : ℕ) (clear : Bool) → clear ≡ everyBelow (restOk xs n) i → n ≤ i → clear && eqb (getD xs i 0) 0 ≡ everyBelow (restOk xs n) (i + 1)
+  unfolding restOk
+  rest-more i clear e h = every-more (restOk xs n) i clear _ e here
+    where
+      here : eqb (getD xs i 0) 0 ≡ restOk xs n i
+      here = rw (le-ltb i n h)
 
 -- the two checks, as they are made
 module _ (l : GateList) (good : Bool) (e : good ≡ everyBelow (placeOk (l .octets) (l .intervals) (l .len)) 128) where
-  pub ok-test : (leb 1 (l .len) && leb (l .len) 128) && good ≡ listOk l
-  unfolding listOk lengthOffered placesOk
+  pub ok-test : (leb 1 (l .len) && leb (l .len) 128) && good ≡ listFormed true l
+  unfolding listFormed listOk lengthOffered placesOk
   ok-test = ap (λ b. (leb 1 (l .len) && leb (l .len) 128) && b) e
 
-  pub none-test : eqb (l .len) 0 && good ≡ listNone l
-  unfolding listNone placesOk
+  pub none-test : eqb (l .len) 0 && good ≡ listFormed false l
+  unfolding listFormed listNone placesOk
   none-test = ap (λ b. eqb (l .len) 0 && b) e
 
 -- a zero interval among the entries

@@ -15,7 +15,7 @@ use Rattle.gatelist.specs.declared.ListRead.{ListRead}
 use Rattle.gatelist.specs.declared.Written.{Written}
 use Rattle.gatelist.specs.declared.Written.the-variants.{Octets, Unwritten}
 use Rattle.gatelist.specs.Coding.{listOf, emptyList, cleanedList}
-use Rattle.gatelist.specs.Sound.{listOk, listNone, Checked}
+use Rattle.gatelist.specs.Sound.{listFormed, Checked}
 use Rattle.gatelist.specs.Lookup.{placeAt}
 use Rattle.gatelist.specs.Octets.{Reading, answered, readingOf, readList, Writing, writingOf, writeList}
 use Rattle.rule.proofs.Refusals.{number-same, number-some}
@@ -28,11 +28,8 @@ one-result x y result p q = p ∙ sym q
 pub empty-unique : (x y : GateList) → x ≡ emptyList → y ≡ emptyList → x ≡ y
 empty-unique x y p q = one-result x y emptyList p q
 
-pub ok-unique : (l : GateList) (x y : Bool) → Checked l x (listOk l) → Checked l y (listOk l) → x ≡ y
-ok-unique l x y p q = one-result x y (listOk l) (p .found) (q .found)
-
-pub none-unique : (l : GateList) (x y : Bool) → Checked l x (listNone l) → Checked l y (listNone l) → x ≡ y
-none-unique l x y p q = one-result x y (listNone l) (p .found) (q .found)
+pub formed-unique : (l : GateList) (there x y : Bool) → Checked l there x → Checked l there y → x ≡ y
+formed-unique l there x y p q = one-result x y (listFormed there l) (p .found) (q .found)
 
 pub has-zero-unique : (l : GateList) (x y : Bool) → x ≡ hasZeroInterval (listOf l) → y ≡ hasZeroInterval (listOf l) → x ≡ y
 has-zero-unique l x y p q = one-result x y (hasZeroInterval (listOf l)) p q

@@ -2,7 +2,7 @@
 -- an absent one is all zeros.
 -- Assumes nothing.
 use mathlib.Core.Path.{_≡_}
-use mathlib.Core.Bool.{Bool, true, cond, not, _&&_}
+use mathlib.Core.Bool.{Bool, true, cond, not, _&&_, _||_}
 use mathlib.Core.List.{List}
 use Prim.Native.Nat.{ℕ, zero, suc}
 use lib.Dec.{ltb, eqb}
@@ -25,6 +25,10 @@ placeOk os is n k = cond (ltb k n) (not (eqb (getD is k 0) 0)) (eqb (getD is k 0
 unfoldable pub usedOk : List ℕ → ℕ → ℕ → Bool
 usedOk is n k = not (ltb k n && eqb (getD is k 0) 0)
 
+-- the place k, with n in use, is no unused place with something else than 0
+unfoldable pub restOk : List ℕ → ℕ → ℕ → Bool
+restOk xs n k = ltb k n || eqb (getD xs k 0) 0
+
 unfoldable pub placesOk : GateList → Bool
 placesOk l = everyBelow (placeOk (l .octets) (l .intervals) (l .len)) largestList
 
@@ -35,7 +39,11 @@ listOk l = lengthOffered (l .len) && placesOk l
 unfoldable pub listNone : GateList → Bool
 listNone l = eqb (l .len) 0 && placesOk l
 
--- the answer of a check, with what the record's type says of its arrays
-pub record Checked (l : GateList) (answer is : Bool) : Type 0 where
-  pub found : answer ≡ is
+-- a list that is there, or an absent one
+unfoldable pub listFormed : Bool → GateList → Bool
+listFormed there l = cond there (listOk l) (listNone l)
+
+-- the answer of the check, with what the record's type says of its arrays
+pub record Checked (l : GateList) (there answer : Bool) : Type 0 where
+  pub found : answer ≡ listFormed there l
   pub places : Places l

@@ -7,7 +7,7 @@ ghost use lib.ListN.{length};
 ghost use Rattle.rule.specs.Gates.{isOpen};
 ghost use Rattle.rule.specs.Orders.{hasZeroInterval};
 ghost use Rattle.gatelist.specs.Coding.{listOf, emptyList, cleanedList};
-ghost use Rattle.gatelist.specs.Sound.{everyBelow, placeOk, usedOk, listOk, listNone, Checked};
+ghost use Rattle.gatelist.specs.Sound.{everyBelow, placeOk, usedOk, restOk, Checked};
 ghost use Rattle.gatelist.specs.Lookup.{placeAt, IntervalAt};
 ghost use Rattle.gatelist.specs.Octets.{readList, readingOf, writeList, writingOf};
 use rule::Refusal;
@@ -64,37 +64,73 @@ fn at_most_max(n: usize) -> usize
     if n <= GateList::MAX { n } else { GateList::MAX }
 }
 
-// Every used interval is not 0, and every unused place is 0 in both arrays. The count k goes beside the index in 32 bits: as wide as an interval, it is
-// compared with the length as many places at a time.
-fn places_ok<'a>(octets: &'a [u8; 128], intervals: &'a [u32; 128], len: usize) -> bool
-    ensures { λ r. ⌜ r ≡ everyBelow (placeOk (now (octets .entry)) (now (intervals .entry)) len) 128 ⌝ }
-{
-    let n = at_most_max(len) as u32;
-    let mut good = true;
-    let mut k: u32 = 0;
-    for i in 0..GateList::MAX {
-        let o = octets[i];
-        let v = intervals[i];
-        let used = k < n;
-        good = good & ((used & (v != 0)) | (!used & ((v == 0) & (o == 0))));
-        k = k + 1;
-    }
-    good
-}
-
-// No used interval is 0, as far as the 128 places go. The count is as in `places_ok`.
+// No used interval is 0, as far as the 128 places go. This loop and the two below leave no place out and never leave early, so that many places are
+// compared at a time.
 fn intervals_ok(intervals: &[u32; 128], len: usize) -> bool
     ensures { λ r. ⌜ r ≡ everyBelow (usedOk (now (intervals .entry)) len) 128 ⌝ }
 {
-    let n = at_most_max(len) as u32;
-    let mut good = true;
-    let mut k: u32 = 0;
-    for i in 0..GateList::MAX {
-        let v = intervals[i];
-        good = good & !((k < n) & (v == 0));
-        k = k + 1;
+    let n = at_most_max(len);
+    let mut zero = false;
+    for i in 0..n {
+        zero = zero | (intervals[i] == 0);
     }
-    good
+    !zero
+}
+
+// Every unused interval is 0.
+fn intervals_clear(intervals: &[u32; 128], len: usize) -> bool
+    ensures { λ r. ⌜ r ≡ everyBelow (restOk (now (intervals .entry)) len) 128 ⌝ }
+{
+    let n = at_most_max(len);
+    let mut clear = true;
+    for i in n..GateList::MAX {
+        clear = clear & (intervals[i] == 0);
+    }
+    clear
+}
+
+// Every unused octet is 0.
+fn octets_clear(octets: &[u8; 128], len: usize) -> bool
+    ensures { λ r. ⌜ r ≡ everyBelow (restOk (now (octets .entry)) len) 128 ⌝ }
+{
+    let n = at_most_max(len);
+    let mut clear = true;
+    for i in n..GateList::MAX {
+        clear = clear & (octets[i] == 0);
+    }
+    clear
+}
+
+// Every used interval is not 0, and every unused place is 0 in both arrays.
+fn places_ok<'a>(octets: &'a [u8; 128], intervals: &'a [u32; 128], len: usize) -> bool
+    ensures { λ r. ⌜ r ≡ everyBelow (placeOk (now (octets .entry)) (now (intervals .entry)) len) 128 ⌝ }
+{
+    let used = intervals_ok(intervals, len);
+    let later = intervals_clear(intervals, len);
+    let shut = octets_clear(octets, len);
+    used & (later & shut)
+}
+
+// What the type says of an array: it has 128 places. Nothing is computed.
+fn sized(a: [u32; 128])
+    ensures { λ _. ⌜ length a ≡ 128 ⌝ }
+{}
+
+fn sized_octets(a: [u8; 128])
+    ensures { λ _. ⌜ length a ≡ 128 ⌝ }
+{}
+
+// The list in two lent arrays is well formed. If it is there: 1 to 128 entries, used intervals not 0, unused places 0. If it is absent: all zeros.
+pub fn formed<'a>(octets: &'a [u8; 128], intervals: &'a [u32; 128], len: usize, there: bool) -> bool
+    ensures { λ r. ⌜ Checked (record { octets = now (octets .entry); intervals = now (intervals .entry); len = len }) there r ⌝ }
+{
+    sized_octets(*octets);
+    sized(*intervals);
+    let good = places_ok(octets, intervals, len);
+    if there {
+        return (1 <= len) & (len <= GateList::MAX) & good;
+    }
+    (len == 0) & good
 }
 
 impl GateList {
@@ -110,24 +146,6 @@ impl GateList {
             intervals: [0u32; 128],
             len: 0,
         }
-    }
-
-    // A well-formed present list: 1 to 128 entries, used intervals not 0, unused places 0.
-    pub fn ok(self) -> bool
-        ensures { λ r. ⌜ Checked self r (listOk self) ⌝ }
-    {
-        let n = self.len;
-        let good = places_ok(&self.octets, &self.intervals, n);
-        (1 <= n) & (n <= GateList::MAX) & good
-    }
-
-    // An absent list: all zeros.
-    pub fn none(self) -> bool
-        ensures { λ r. ⌜ Checked self r (listNone self) ⌝ }
-    {
-        let n = self.len;
-        let good = places_ok(&self.octets, &self.intervals, n);
-        (n == 0) & good
     }
 
     // A used interval is 0. A place beyond the 128 counts as 0.
@@ -170,11 +188,6 @@ pub fn gate(octet: u8, class: u8) -> bool
     }
     (octet >> class) & 1 == 1
 }
-
-// What the type says of an array: it has 128 places. Nothing is computed.
-fn sized(a: [u32; 128])
-    ensures { λ _. ⌜ length a ≡ 128 ⌝ }
-{}
 
 // The interval at a place; a place beyond the 128 has 0.
 fn interval_at(intervals: &[u32; 128], i: usize) -> u64

@@ -1,4 +1,5 @@
 pub mod Coding
+pub mod Lean
 pub mod Spans
 pub mod Overruns
 pub mod Performing

@@ -42,17 +42,16 @@ list-used p k b e j h =
     free false e = operating-fine p k e .0 .intervals
 
 -- what rules at t, no later than a goal's next instant
-pub span-ahead : (p : Port) (t cap : ℕ) (x : Times) (r : Span) → 1 ≤ t → cap ≤ largestInstant + 1 → x ≡ timesOf p → Governs x t cap r → Ahead p t r
-span-ahead p t cap x r a b e g =
+pub span-ahead : (t cap : ℕ) (x : Times) (r : Span) → 1 ≤ t → cap ≤ largestInstant + 1 → Governs x t cap r → Ahead x t r
+span-ahead t cap x r a b g =
     let u = g .upto in
     record {
       first = a;
       near = omega arith;
-      governs = subst (λ (y : Times). Governs y t (r .edge) r) e
-          (record { after = g .after; upto = omega arith; flat = g .flat; ruled = g .ruled; short = g .short; there = g .there });
+      governs = record { after = g .after; upto = omega arith; flat = g .flat; ruled = g .ruled; short = g .short; there = g .there };
     }
 
-module _ (p : Port) (t : ℕ) (r : Span) (h : Ahead p t r) where
+module _ (p : Port) (t : ℕ) (r : Span) (h : Ahead (timesOf p) t r) where
   pub span-flat : r .flat ≡ true → (w : Walk) (at os : List ℕ) (r′ : Walk) (at′ os′ : List ℕ) → Passes (p .standing) t (r .edge) w at os r′ at′ os′
       → WalksSpan p r t w at os r′ at′ os′
   span-flat e w at os r′ at′ os′ k goal at₀ os₀ u d =

@@ -1,6 +1,6 @@
 -- Step: each way out of it, and what its walk comes to.
 -- Assumes nothing.
-use mathlib.Core.Path.{_≡_, refl, ap, sym, _∙_, subst⁻¹}
+use mathlib.Core.Path.{_≡_, refl, ap, sym, _∙_, subst, subst⁻¹}
 use mathlib.Core.Bool.{Bool, true, false}
 use mathlib.Core.List.{List, [], map}
 use mathlib.Core.Option.{none, some}
@@ -19,15 +19,19 @@ use Rattle.rule.specs.History.{changes}
 use Rattle.rule.proofs.Changes.{log-shown}
 use Rattle.rule.proofs.Walk.{reach-shown}
 use Rattle.port.specs.declared.Port.{Port}
-use Rattle.port.specs.declared.Stepped.{Stepped}
 use Rattle.port.specs.declared.StepAnswer.the-variants as stepped
-use Rattle.port.specs.Record.{wellFormed}
+use Rattle.port.specs.declared.regime.Times.{Times}
+use Rattle.port.specs.declared.step.Course.{Course}
+use Rattle.port.specs.declared.step.Course.the-variants as course
+use Rattle.port.specs.Regime.{timesOf, timed}
+use Rattle.port.specs.Record.{wellFormed, clockInRange, idleWhileOff, operatingFormed, waitsInTime, waitingFormed}
 use Rattle.port.specs.Coding.{decode, encode, Fine}
 use Rattle.port.specs.Updates.{withMark}
-use Rattle.port.specs.Walk.{Walks, journeyOf, Written, MetBy}
+use Rattle.port.specs.Walk.{Walks, journeyOf, Written, GoesBy, Goes, Courses}
 use Rattle.port.specs.Step.{into, instantsOf, octetsOf}
-use Rattle.port.specs.Step.{stepDeclines, passes, reported, afterStep, StepsBy, Steps, ArrivesBy, Arrives}
+use Rattle.port.specs.Step.{stepDeclines, passes, reported, afterStep, StepsBy, Steps}
 use Rattle.port.proofs.Moving.{due-ticks}
+use Rattle.port.proofs.Lean.{timed-fine}
 
 -- refused
 
@@ -40,49 +44,28 @@ into-none : (buf : List ℕ) → buf ≡ into [] buf
 unfolding into
 into-none buf = refl
 
-module _ (p : Port) (goal : ℕ) (at os : List ℕ) where
-  declined : (r : Refusal) → stepDeclines goal p ≡ some r → Steps p goal at at os os (record { answer = stepped.Refused r; port = p })
-  unfolding passes afterStep
-  declined r e =
-      let z : passes p goal (min (length at) (length os)) ≡ 0 = rw e in
-      subst⁻¹ (λ k. StepsBy k p goal at at os os (record { answer = stepped.Refused r; port = p })) z
-      (record {
-        answer = rw e;
-        port = rw e;
-        instants = rw (none-reported p) (into-none at);
-        octets = rw (none-reported p) (into-none os);
-      })
-
-  pub step-malformed : wellFormed p ≡ false → Steps p goal at at os os (record { answer = stepped.Refused MalformedPort; port = p })
+module _ (p : Port) (goal : ℕ) where
+  pub declines-malformed : wellFormed p ≡ false → stepDeclines goal p ≡ some MalformedPort
   unfolding stepDeclines
-  step-malformed e = declined MalformedPort (rw e)
+  declines-malformed e = rw e
 
   module _ (e : wellFormed p ≡ true) where
-    pub step-above : largestInstant < goal → Steps p goal at at os os (record { answer = stepped.Refused AboveLargest; port = p })
+    pub declines-above : largestInstant < goal → stepDeclines goal p ≡ some AboveLargest
     unfolding stepDeclines stepOrder
-    step-above h = declined AboveLargest (rw (e, lt-ltb largestInstant goal h))
+    declines-above h = rw (e, lt-ltb largestInstant goal h)
 
-    pub step-before : goal ≤ largestInstant → goal < p .clock → Steps p goal at at os os (record { answer = stepped.Refused BeforeClock; port = p })
-    unfolding stepDeclines stepOrder decode
-    step-before h k = declined BeforeClock (rw (e, le-ltb largestInstant goal h, lt-ltb goal (p .clock) k))
+    module _ (h : goal ≤ largestInstant) where
+      pub declines-before : goal < p .clock → stepDeclines goal p ≡ some BeforeClock
+      unfolding stepDeclines stepOrder decode
+      declines-before k = rw (e, le-ltb largestInstant goal h, lt-ltb goal (p .clock) k)
 
-    pub step-far : goal ≤ largestInstant → p .clock ≤ goal → largestStep < goal - p .clock
-        → Steps p goal at at os os (record { answer = stepped.Refused StepTooLong; port = p })
-    unfolding stepDeclines stepOrder decode
-    step-far h k l = declined StepTooLong (rw (e, le-ltb largestInstant goal h, le-ltb goal (p .clock) k, lt-ltb largestStep (goal - p .clock) l))
+      pub declines-far : p .clock ≤ goal → largestStep < goal - p .clock → stepDeclines goal p ≡ some StepTooLong
+      unfolding stepDeclines stepOrder decode
+      declines-far k l = rw (e, le-ltb largestInstant goal h, le-ltb goal (p .clock) k, lt-ltb largestStep (goal - p .clock) l)
 
-    accepts : goal ≤ largestInstant → p .clock ≤ goal → goal - p .clock ≤ largestStep → stepDeclines goal p ≡ none
-    unfolding stepDeclines stepOrder decode
-    accepts h k l = rw (e, le-ltb largestInstant goal h, le-ltb goal (p .clock) k, le-ltb largestStep (goal - p .clock) l)
-
-    pub step-done : (at′ os′ : List ℕ) (r : Stepped) → goal ≤ largestInstant → p .clock ≤ goal → goal - p .clock ≤ largestStep → Arrives p goal at at′ os os′ r
-        → Steps p goal at at′ os os′ r
-    unfolding passes afterStep
-    step-done at′ os′ r h k l x =
-        let d = accepts h k l in
-        let z : passes p goal (min (length at) (length os)) ≡ reach machine (goal - p .clock) (min (length at) (length os)) (decode p) = rw d in
-        subst⁻¹ (λ k. StepsBy k p goal at at′ os os′ r) z
-        (record { answer = rw d (x .answer); port = rw d (x .port); instants = x .instants; octets = x .octets })
+      pub declines-not : p .clock ≤ goal → goal - p .clock ≤ largestStep → stepDeclines goal p ≡ none
+      unfolding stepDeclines stepOrder decode
+      declines-not k l = rw (e, le-ltb largestInstant goal h, le-ltb goal (p .clock) k, le-ltb largestStep (goal - p .clock) l)
 
 -- what was written can be read back
 column-fits : (f : ℕ × ℕ → ℕ) (l : List (ℕ × ℕ)) (buf now : List ℕ) (n : ℕ) → n ≡ length l → now ≡ into (map f l) buf → n ≤ length now
@@ -102,7 +85,7 @@ walks-written p goal at os e n at′ os′ h k w =
 
 -- accepted: the walk from the clock, whose end is how far the room reaches
 
-module _ (p : Port) (fine : Fine p) (goal : ℕ) (at at′ os os′ : List ℕ) where
+module _ (p : Port) (goal : ℕ) (at at′ os os′ : List ℕ) where
   reached : (e n : ℕ) → Walks (journeyOf p goal at os) e n at′ os′ → reach machine (goal - p .clock) (min (length at) (length os)) (decode p) ≡ e - p .clock
   unfolding decode
   reached e n w = reach-shown (goal - p .clock) (min (length at) (length os)) (decode p) ∙ w .reaches
@@ -111,15 +94,59 @@ module _ (p : Port) (fine : Fine p) (goal : ℕ) (at at′ os os′ : List ℕ) 
   unfolding reported decode
   told e = sym (log-shown (e - p .clock) (decode p))
 
-  pub walk-arrives : (e n : ℕ) → Walks (journeyOf p goal at os) e n at′ os′ → (octet : ℕ) → octet ≡ model.shown (decode p) (p .clock) → (b : Bool)
-      → MetBy (p .frame) octet (p .clock) e n at′ os′ b → (q : Port) → q ≡ encode (model.due e (withMark b (decode p)))
-      → Arrives p goal at at′ os os′ (record { answer = stepped.Written n; port = q })
-  unfolding decode
-  walk-arrives e n w octet o b m q f =
-      subst⁻¹ (λ k. ArrivesBy k p at at′ os os′ (record { answer = stepped.Written n; port = q })) (reached e n w)
+  goes : Fine p → (n e : ℕ) (b : Bool) → stepDeclines goal p ≡ none → GoesBy p goal at at′ os os′ n e b → (q : Port) → q ≡ encode (model.due e (withMark b (decode p)))
+      → Steps p goal at at′ os os′ (record { answer = stepped.Written n; port = q })
+  unfolding decode passes afterStep
+  goes fine n e b d g q f =
+      let w = g .walks in
+      let z : passes p goal (min (length at) (length os)) ≡ e - p .clock = rw d (reached e n w) in
+      subst⁻¹ (λ k. StepsBy k p goal at at′ os os′ (record { answer = stepped.Written n; port = q })) z
       (record {
-        answer = ap stepped.Written (w .count ∙ ap length (told e));
-        port = f ∙ ap encode (due-ticks (decode p) (fine .sound) e (w .from) b (m (journeyOf p goal at os) w refl o));
+        answer = rw d (ap stepped.Written (w .count ∙ ap length (told e)));
+        port = rw d (f ∙ ap encode (due-ticks (decode p) (fine .sound) e (w .from) b (g .met)));
         instants = w .instants ∙ ap (λ l. into (instantsOf l) at) (told e);
         octets = w .octets ∙ ap (λ l. into (octetsOf l) os) (told e);
       })
+
+  stays : (r : Refusal) → stepDeclines goal p ≡ some r → at′ ≡ at → os′ ≡ os → Steps p goal at at′ os os′ (record { answer = stepped.Refused r; port = p })
+  unfolding passes afterStep
+  stays r e a o =
+      let z : passes p goal (min (length at) (length os)) ≡ 0 = rw e in
+      subst⁻¹ (λ k. StepsBy k p goal at at′ os os′ (record { answer = stepped.Refused r; port = p })) z
+      (record {
+        answer = rw e;
+        port = rw e;
+        instants = rw (none-reported p) (a ∙ into-none at);
+        octets = rw (none-reported p) (o ∙ into-none os);
+      })
+
+  pub goes-on : Fine p → wellFormed p ≡ true → goal ≤ largestInstant → p .clock ≤ goal → goal - p .clock ≤ largestStep → (r : Course) → Goes p goal at at′ os os′ r
+      → Courses p goal at at′ os os′ r
+  goes-on f e h k l (course.Stays r) g = absurd g
+  goes-on f e h k l (course.Goes n u b) g = (declines-not p goal e h k l, (f, g))
+
+-- a step by its course, which looks at the port's times and lists alone
+module _ (p : Port) (goal : ℕ) (at at′ os os′ : List ℕ) (x : Times) (i : x ≡ timesOf p) where
+  timed-declines : stepDeclines goal (timed x p) ≡ stepDeclines goal p
+  unfolding stepDeclines decode stepOrder wellFormed clockInRange idleWhileOff operatingFormed waitingFormed waitsInTime
+  timed-declines = ap (λ (y : Times). stepDeclines goal (timed y p)) i
+
+  module _ (w : Course) (k : Courses (timed x p) goal at at′ os os′ w) where
+    pub step-stays : (r : Refusal) → w ≡ course.Stays r → Steps p goal at at′ os os′ (record { answer = stepped.Refused r; port = p })
+    step-stays r h =
+        let c = subst (Courses (timed x p) goal at at′ os os′) h k in
+        stays p goal at at′ os os′ r (sym timed-declines ∙ c .0) (c .1 .0) (c .1 .1)
+
+    module _ (n e : ℕ) (b : Bool) (h : w ≡ course.Goes n e b) where
+      told-goes : Courses (timed x p) goal at at′ os os′ (course.Goes n e b)
+      told-goes = subst (Courses (timed x p) goal at at′ os os′) h k
+
+      pub course-fine : Fine p
+      course-fine = timed-fine p x i (told-goes .1 .0)
+
+      goes-timed : GoesBy p goal at at′ os os′ n e b
+      unfolding decode model.shown
+      goes-timed = let g = subst (λ (y : Times). GoesBy (timed y p) goal at at′ os os′ n e b) i (told-goes .1 .1) in record { walks = g .walks; met = g .met }
+
+      pub step-goes : (q : Port) → q ≡ encode (model.due e (withMark b (decode p))) → Steps p goal at at′ os os′ (record { answer = stepped.Written n; port = q })
+      step-goes q f = goes p goal at at′ os os′ course-fine n e b (sym timed-declines ∙ told-goes .0) goes-timed q f

@@ -1,7 +1,7 @@
 -- Transmit. In order: the tests of speeds and heads; the order; what is offered once the call is accepted; the record after it, in which nothing but the frame
 -- has changed; the ways out.
 -- Assumes nothing.
-use mathlib.Core.Path.{_≡_, refl, ap, sym, _∙_}
+use mathlib.Core.Path.{_≡_, refl, ap, sym, _∙_, subst⁻¹}
 use mathlib.Core.Bool.{Bool, true, false, cond, not, _&&_, _||_, true≢false}
 use mathlib.Core.List.{List}
 use mathlib.Core.Option.{Option, none, some}
@@ -26,15 +26,19 @@ use Rattle.port.specs.declared.Port.{Port}
 use Rattle.port.specs.declared.Answer.{Answer}
 use Rattle.port.specs.declared.Answer.the-variants.{Done, Refused}
 use Rattle.port.specs.declared.Choice.{Choice}
+use Rattle.port.specs.declared.regime.Times.{Times}
+use Rattle.port.specs.declared.transmit.Decided.{Decided}
 use Rattle.port.specs.declared.Choice.the-variants as choice
-use Rattle.port.specs.Record.{wellFormed}
+use Rattle.port.specs.Record.{wellFormed, clockInRange, idleWhileOff, operatingFormed, waitsInTime, waitingFormed}
 use Rattle.port.specs.Coding.{present, decodeFrame, encodeFrame, decode, encode, Fine}
 use Rattle.port.specs.Answers.{answerOf, choiceOf}
 use Rattle.port.specs.Acts.{declines, after}
 use Rattle.port.specs.Updates.{withFrame, withMark}
 use Rattle.port.specs.Choosing.{Offered}
-use Rattle.port.specs.Transmit.{Stores, transmitRefusal}
+use Rattle.port.specs.Transmit.{Stores, Decides, transmitRefusal}
+use Rattle.port.specs.Regime.{timesOf, timed}
 use Rattle.port.proofs.Coding.{mark-there}
+use Rattle.port.proofs.Lean.{timed-fine}
 use Rattle.port.proofs.Submitting.{act-refused}
 
 -- the tests
@@ -147,6 +151,12 @@ frame-read : (o : Option model.Frame) → present (encodeFrame o .present) (deco
 frame-read none = refl
 frame-read (some f) = refl
 
+some-same : (q r : Refusal) → some q ≡ some r → q ≡ r
+some-same q r e = cc
+
+some-none : (r : Refusal) → some r ≡ none → ⊥
+some-none r e = let z : _≡_ {A = ℕ} 0 1 = cc in absurd (omega arith)
+
 declined : (o : Option Refusal) (r : Refusal) → answerOf o ≡ Refused r → o ≡ some r
 declined none r e = let z : _≡_ {A = ℕ} 0 1 = cc in absurd (omega arith)
 declined (some q) r e = cc
@@ -185,3 +195,44 @@ module _ (heads : List ℕ) (speed : ℕ) (p : Port) (answer : Answer) (is : ans
 
       accepts-after : declines (transmit heads speed) p ≡ none → after (transmit heads speed) p ≡ encode (perform (transmit heads speed) (decode p))
       accepts-after d = unfold after in rw d
+
+  pub decides-refused : (r : Refusal) → answer ≡ Refused r → Decides heads speed p (record { answer = choice.Refused r; frame = p .frame })
+  decides-refused r e =
+      let d = declined (declines (transmit heads speed) p) r (sym is ∙ e) in
+      record {
+        refused = λ w z. (ap choice.Refused (some-same r w (sym d ∙ z)), refl);
+        fine = λ z. absurd (some-none r (sym d ∙ z));
+        frame = λ z. absurd (some-none r (sym d ∙ z));
+        answer = λ z. absurd (some-none r (sym d ∙ z));
+      }
+
+  pub decides-done : Fine p → answer ≡ Done → (f : Frame) → f ≡ encodeFrame (begun heads speed (decode p)) → (x : Choice)
+      → x ≡ choiceOf none (present (f .present) (decodeFrame f)) → Decides heads speed p (record { answer = x; frame = f })
+  decides-done k e f i x j =
+      let d = not-declined (declines (transmit heads speed) p) (sym is ∙ e) in
+      record { refused = λ w z. absurd (some-none w (sym z ∙ d)); fine = λ _. k; frame = λ _. i; answer = λ _. j }
+
+-- the decision looks at the port's times and lists alone, and its frame is stored
+module _ (heads : List ℕ) (speed : ℕ) (p : Port) (x : Times) (i : x ≡ timesOf p) (r : Decided) (k : Decides heads speed (timed x p) r) where
+  timed-declines : declines (transmit heads speed) (timed x p) ≡ declines (transmit heads speed) p
+  unfolding declines decode transmitOrder wellFormed clockInRange idleWhileOff operatingFormed waitingFormed waitsInTime
+  timed-declines = ap (λ (y : Times). declines (transmit heads speed) (timed y p)) i
+
+  timed-begun : begun heads speed (decode (timed x p)) ≡ begun heads speed (decode p)
+  unfolding decode lookAhead model.shownNow model.shown
+  timed-begun = ap (λ (y : Times). begun heads speed (decode (timed y p))) i
+
+  pub transmit-stores : Stores heads speed p (record { answer = r .answer; port = withFrame (r .frame) (p .overruns) p })
+  transmit-stores = go (declines (transmit heads speed) p) refl
+    where
+      go : (o : Option Refusal) → declines (transmit heads speed) p ≡ o → Stores heads speed p (record { answer = r .answer; port = withFrame (r .frame) (p .overruns) p })
+      go none e =
+          let d = timed-declines ∙ e in
+          transmit-done heads speed p (answerOf (declines (transmit heads speed) p)) refl (timed-fine p x i (k .fine d)) (ap answerOf e) (r .frame)
+          (k .frame d ∙ ap encodeFrame timed-begun) (r .answer) (k .answer d)
+      go (some w) e =
+          let z = k .refused w (timed-declines ∙ e) in
+          let f : r .frame ≡ p .frame = z .1 ∙ ap (λ (y : Times). y .frame) i in
+          subst⁻¹ (λ (g : Frame). Stores heads speed p (record { answer = r .answer; port = withFrame g (p .overruns) p })) f
+          (subst⁻¹ (λ (c : Choice). Stores heads speed p (record { answer = c; port = p })) (z .0)
+          (transmit-refused heads speed p (answerOf (declines (transmit heads speed) p)) refl w (ap answerOf e)))

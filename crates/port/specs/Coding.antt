@@ -8,12 +8,12 @@ use Rattle.rule.specs.Acts.{isSome}
 use Rattle.rule.specs.Sound.{Sound}
 use Rattle.rule.specs.Cycle as cycle
 use Rattle.rule.specs.Port as model
-use Rattle.gatelist.specs.Coding.{listOf, encodeList, emptyList}
+use Rattle.gatelist.specs.Coding.{listOf, encodeList, emptyList, Places}
 use Rattle.port.specs.declared.Config.{Config}
 use Rattle.port.specs.declared.Waiting.{Waiting}
 use Rattle.port.specs.declared.Frame.{Frame}
 use Rattle.port.specs.declared.Port.{Port}
-use Rattle.port.specs.Record.{wellFormed}
+use Rattle.port.specs.Record.{configFormed, wellFormed}
 
 -- a part that its mark says is there
 abbrev pub present : {A : Type 0} → Bool → A → Option A
@@ -87,6 +87,11 @@ encode m = record {
 pub record Fine (p : Port) : Type 0 where
   pub whole : encode (decode p) ≡ p
   pub sound : Sound (decode p)
+
+-- what the check of a configuration tells
+pub record ConfigChecked (g : Config) (there answer : Bool) : Type 0 where
+  pub found : answer ≡ configFormed there g
+  pub places : Places (g .list)
 
 pub record Checked (p : Port) (answer : Bool) : Type 0 where
   pub is : answer ≡ wellFormed p

@@ -19,16 +19,47 @@ use Rattle.port.specs.Coding.{present}
 
 abbrev pub timesOf : Port → Times
 timesOf p = record {
+  frame = p .frame;
+  clock = p .clock;
   on = p .on;
+  standing = p .standing;
   operates = p .operates;
-  start = p .operating .start;
+  len = p .operating .list .len;
   cycle = p .operating .cycle;
   extension = p .operating .extension;
+  start = p .operating .start;
   waits = p .waits;
-  change = p .waiting .config .start;
+  newlen = p .waiting .config .list .len;
   period = p .waiting .config .cycle;
+  newextension = p .waiting .config .extension;
+  change = p .waiting .config .start;
   since = p .waiting .since;
 }
+
+-- the port with these times and the places of its two lists; its counters are left open, as nothing that is asked of it looks at them
+abbrev pub portOf : Times → List ℕ → List ℕ → List ℕ → List ℕ → Port
+portOf x os vs ws zs = record {
+  frame = x .frame;
+  clock = x .clock;
+  on = x .on;
+  standing = x .standing;
+  operates = x .operates;
+  operating = record { list = record { octets = os; intervals = vs; len = x .len }; cycle = x .cycle; extension = x .extension; start = x .start };
+  waits = x .waits;
+  waiting = record {
+    config = record { list = record { octets = ws; intervals = zs; len = x .newlen }; cycle = x .period; extension = x .newextension; start = x .change };
+    since = x .since;
+  };
+  errors = 0;
+  overruns = [];
+}
+
+-- the same, with the places of a port's lists; a port without its counters
+abbrev pub timed : Times → Port → Port
+timed x p = portOf x (p .operating .list .octets) (p .operating .list .intervals) (p .waiting .config .list .octets) (p .waiting .config .list .intervals)
+
+abbrev pub lean : Port → Port
+lean p = timed (timesOf p) p
 
 -- a port with these times, a standing octet, and the lists of what operates and of what waits
 abbrev pub configBy : Times → List Entry → cycle.Config

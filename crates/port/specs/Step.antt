@@ -54,13 +54,3 @@ pub record StepsBy (k : ℕ) (p : Port) (goal : ℕ) (at at′ os os′ : List �
 
 abbrev pub Steps : Port → ℕ → List ℕ → List ℕ → List ℕ → List ℕ → Stepped → Type 0
 Steps p goal at at′ os os′ r = StepsBy (passes p goal (min (length at) (length os))) p goal at at′ os os′ r
-
--- a step that nothing refuses
-pub record ArrivesBy (k : ℕ) (p : Port) (at at′ os os′ : List ℕ) (r : Stepped) : Type 0 where
-  pub answer : r .answer ≡ stepped.Written (length (reported p k))
-  pub port : r .port ≡ encode (ticks machine k (decode p))
-  pub instants : at′ ≡ into (instantsOf (reported p k)) at
-  pub octets : os′ ≡ into (octetsOf (reported p k)) os
-
-abbrev pub Arrives : Port → ℕ → List ℕ → List ℕ → List ℕ → List ℕ → Stepped → Type 0
-Arrives p goal at at′ os os′ r = ArrivesBy (reach machine (goal - p .clock) (min (length at) (length os)) (decode p)) p at at′ os os′ r

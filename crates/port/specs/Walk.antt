@@ -4,6 +4,7 @@
 use mathlib.Core.Path.{_≡_}
 use mathlib.Core.Bool.{Bool, true, false}
 use mathlib.Core.List.{List}
+use mathlib.Core.Option.{none, some}
 use Prim.Native.Nat.{ℕ, _+_, _-_, _≤_, _<_, min}
 use lib.ListN.{length}
 use Rattle.rule.specs.History.{changes, meets}
@@ -12,11 +13,14 @@ use Rattle.rule.specs.Limits.{largestInstant}
 use Rattle.rule.specs.Port.{shown}
 use Rattle.port.specs.declared.Frame.{Frame}
 use Rattle.port.specs.declared.Port.{Port}
+use Rattle.port.specs.declared.regime.Times.{Times}
 use Rattle.port.specs.declared.regime.Span.{Span}
 use Rattle.port.specs.declared.walk.Walk.{Walk}
-use Rattle.port.specs.Coding.{present, decodeFrame, decode}
-use Rattle.port.specs.Step.{into, instantsOf, octetsOf}
-use Rattle.port.specs.Regime.{timesOf, Governs}
+use Rattle.port.specs.declared.step.Course.{Course}
+use Rattle.port.specs.declared.step.Course.the-variants as course
+use Rattle.port.specs.Coding.{present, decodeFrame, decode, Fine}
+use Rattle.port.specs.Step.{into, instantsOf, octetsOf, stepDeclines}
+use Rattle.port.specs.Regime.{Governs}
 
 -- a step: the function that it walks, the old clock, the goal, and what stood in the buffers
 pub record Journey : Type 0 where
@@ -65,11 +69,11 @@ Passes x u e w at os r at′ os′ = (j : Journey) → Walked j (u - 1) (w .octe
 abbrev pub journeyOf : Port → ℕ → List ℕ → List ℕ → Journey
 journeyOf p goal at os = record { shows = shown (decode p); clock = p .clock; goal = goal; instants = at; octets = os }
 
--- a span of what a port shows from t on
-pub record Ahead (p : Port) (t : ℕ) (r : Span) : Type 0 where
+-- a span of what a port with these times shows from t on
+pub record Ahead (x : Times) (t : ℕ) (r : Span) : Type 0 where
   pub first : 1 ≤ t
   pub near : r .edge ≤ largestInstant + 1
-  pub governs : Governs (timesOf p) t (r .edge) r
+  pub governs : Governs x t (r .edge) r
 
 abbrev pub WalksSpan : Port → Span → ℕ → Walk → List ℕ → List ℕ → Walk → List ℕ → List ℕ → Type 0
 WalksSpan p s t w at os r at′ os′ = (goal : ℕ) (at₀ os₀ : List ℕ) → s .edge ≤ goal + 1 → Walked (journeyOf p goal at₀ os₀) (t - 1) (w .octet) (w .written) at os
@@ -85,3 +89,17 @@ pub record Written (c e n : ℕ) (at os : List ℕ) : Type 0 where
 abbrev pub MetBy : Frame → ℕ → ℕ → ℕ → ℕ → List ℕ → List ℕ → Bool → Type 0
 MetBy f octet clock end n at os r = (j : Journey) → Walks j end n at os → clock ≡ j .clock → octet ≡ j .shows (j .clock)
     → r ≡ meets (j .shows) (j .clock) (end - j .clock) (present (f .present) (decodeFrame f))
+
+-- a step that nothing refuses: n changes are written, it reaches e, and b says whether the frame met a closed gate on the way
+pub record GoesBy (p : Port) (goal : ℕ) (at at′ os os′ : List ℕ) (n e : ℕ) (b : Bool) : Type 0 where
+  pub walks : Walks (journeyOf p goal at os) e n at′ os′
+  pub met : b ≡ meets (shown (decode p)) (p .clock) (e - p .clock) (present (p .frame .present) (decodeFrame (p .frame)))
+
+abbrev pub Goes : Port → ℕ → List ℕ → List ℕ → List ℕ → List ℕ → Course → Type 0
+Goes p goal at at′ os os′ (course.Stays r) = ⊥
+Goes p goal at at′ os os′ (course.Goes n e b) = GoesBy p goal at at′ os os′ n e b
+
+-- the course of any step
+abbrev pub Courses : Port → ℕ → List ℕ → List ℕ → List ℕ → List ℕ → Course → Type 0
+Courses p goal at at′ os os′ (course.Stays r) = (stepDeclines goal p ≡ some r) × ((at′ ≡ at) × (os′ ≡ os))
+Courses p goal at at′ os os′ (course.Goes n e b) = (stepDeclines goal p ≡ none) × (Fine p × GoesBy p goal at at′ os os′ n e b)

@@ -5,10 +5,11 @@ ghost use mathlib.Core.Bool.{cond};
 ghost use Prim.Native.Nat.{_+_, _≤_, _<_};
 ghost use Rattle.rule.specs.Choice.{lookAhead};
 ghost use Rattle.port.specs.Coding.{decode, Fine};
+ghost use Rattle.port.specs.Regime.{portOf};
 ghost use Rattle.port.specs.Stretch.{Spanned};
 ghost use Rattle.port.specs.Ahead.{Stamps, Narrows, ClosesList, Closes};
-use crate::Port;
 use crate::numbers::least;
+use crate::regime::Times;
 use crate::regime::plain_start;
 use crate::walk::Stretch;
 use crate::walk::advance;
@@ -99,34 +100,36 @@ fn closings_in<'a>(
 }
 
 // When the gates of the wanted classes close after the clock, as far as that is before last: what is open for a whole cycle stays so.
-pub fn closings(p: Port, wanted: u8, last: u64) -> Gates
-    requires { ⌜ Fine p ⌝ }
-    requires { ⌜ (p .clock + 1 < last) × (last ≤ p .clock + 1606400) ⌝ }
-    ensures { λ r. ⌜ Closes (lookAhead (decode p)) (p .clock + 1) last wanted (r .closing) ⌝ }
+pub fn closings<'a>(
+    x: Times,
+    os: &'a [u8; 128],
+    vs: &'a [u32; 128],
+    ws: &'a [u8; 128],
+    zs: &'a [u32; 128],
+    wanted: u8,
+    last: u64,
+) -> Gates
+    requires { ⌜ Fine (portOf x (now os) (now vs) (now ws) (now zs)) ⌝ }
+    requires { ⌜ (x .clock + 1 < last) × (last ≤ x .clock + 1606400) ⌝ }
+    ensures { λ r. ⌜ Closes (lookAhead (decode (portOf x (now (os .entry)) (now (vs .entry)) (now (ws .entry)) (now (zs .entry))))) (x .clock + 1) last wanted (r .closing) ⌝ }
 {
-    let from = p.clock + 1;
-    if !p.operates {
+    let from = x.clock + 1;
+    if !x.operates {
         let g = Gates {
             left: wanted,
             closing: [NEVER; 8],
         };
-        return narrowed(g, p.standing, from);
+        return narrowed(g, x.standing, from);
     }
-    let len = p.operating.list.len;
-    let period = p.operating.cycle;
-    let base = plain_start(p.operating.start, period, from);
+    let period = x.cycle;
+    let base = plain_start(x.start, period, from);
     let edge = least(last, from + period);
     let s = Stretch {
-        len,
+        len: x.len,
         period,
         base,
         from,
         edge,
     };
-    closings_in(
-        &p.operating.list.octets,
-        &p.operating.list.intervals,
-        s,
-        wanted,
-    )
+    closings_in(os, vs, s, wanted)
 }

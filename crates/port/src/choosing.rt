@@ -4,17 +4,18 @@ ghost use Prim.Native.Nat.{_≤_, _<_};
 ghost use lib.Dec.{leb};
 ghost use Rattle.rule.specs.Limits.{largestInstant};
 ghost use Rattle.rule.specs.Gates.{isOpen};
-ghost use Rattle.rule.specs.Port.{shownNow};
+ghost use Rattle.rule.specs.Acts.{transmit, performed};
 ghost use Rattle.rule.specs.Choice as model;
 ghost use Rattle.port.specs.Coding.{decode, encodeFrame, Fine};
+ghost use Rattle.port.specs.Regime.{portOf};
 ghost use Rattle.port.specs.Choosing.{Sets, Forms, ready, endsBy, Longest, Offered, foundOf};
 use crate::Frame;
-use crate::Port;
 use crate::ahead::closings;
 use crate::ahead::pick;
 use crate::look::shown_at;
 use crate::numbers::most;
 use crate::record::no_frame;
+use crate::regime::Times;
 
 // So many nanoseconds a frame of a length takes at a speed in Mbit/s.
 fn duration(len: u64, speed: u64) -> u64
@@ -90,16 +91,25 @@ fn in_time(octet: u8, heads: [u64; 8], speed: u64, t: u64, closing: [u64; 8]) ->
 }
 
 // The classes that qualify, with an octet shown now.
-fn qualifying(p: Port, heads: [u64; 8], speed: u64, octet: u8) -> u8
-    requires { ⌜ Fine p ⌝ }
+fn qualifying<'a>(
+    x: Times,
+    os: &'a [u8; 128],
+    vs: &'a [u32; 128],
+    ws: &'a [u8; 128],
+    zs: &'a [u32; 128],
+    heads: [u64; 8],
+    speed: u64,
+    octet: u8,
+) -> u8
+    requires { ⌜ Fine (portOf x (now os) (now vs) (now ws) (now zs)) ⌝ }
     requires { ⌜ Offered heads speed ⌝ }
-    ensures { λ r. ⌜ Forms (model.qualifies heads speed (p .clock) octet (model.lookAhead (decode p))) 8 r ⌝ }
+    ensures { λ r. ⌜ Forms (model.qualifies heads speed (x .clock) octet (model.lookAhead (decode (portOf x (now (os .entry)) (now (vs .entry)) (now (ws .entry)) (now (zs .entry)))))) 8 r ⌝ }
 {
-    let t = p.clock;
+    let t = x.clock;
     let w = wanted(heads, octet);
     let len = longest(heads, w);
     let last = t + duration(len, speed);
-    let g = closings(p, w, last);
+    let g = closings(x, os, vs, ws, zs, w, last);
     let closing = g.closing;
     in_time(w, heads, speed, t, closing)
 }
@@ -150,13 +160,21 @@ fn frame_for(octet: u8, heads: [u64; 8], speed: u64, t: u64) -> Frame
 }
 
 // The frame that is chosen now, or none.
-pub fn chosen(p: Port, heads: [u64; 8], speed: u64) -> Frame
-    requires { ⌜ Fine p ⌝ }
+pub fn chosen<'a>(
+    x: Times,
+    os: &'a [u8; 128],
+    vs: &'a [u32; 128],
+    ws: &'a [u8; 128],
+    zs: &'a [u32; 128],
+    heads: [u64; 8],
+    speed: u64,
+) -> Frame
+    requires { ⌜ Fine (portOf x (now os) (now vs) (now ws) (now zs)) ⌝ }
     requires { ⌜ Offered heads speed ⌝ }
-    ensures { λ r. ⌜ r ≡ encodeFrame (model.chosen heads speed (p .clock) (shownNow (decode p)) (model.lookAhead (decode p))) ⌝ }
+    ensures { λ r. ⌜ r ≡ encodeFrame (performed (transmit heads speed) (decode (portOf x (now (os .entry)) (now (vs .entry)) (now (ws .entry)) (now (zs .entry)))) .frame) ⌝ }
 {
-    let t = p.clock;
-    let octet = shown_at(p, t);
-    let q = qualifying(p, heads, speed, octet);
+    let t = x.clock;
+    let octet = shown_at(x, os, vs, ws, zs, t);
+    let q = qualifying(x, os, vs, ws, zs, heads, speed, octet);
     frame_for(q, heads, speed, t)
 }

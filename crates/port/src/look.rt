@@ -1,17 +1,17 @@
 // Look: the octet shown at an instant not before the clock, if no further act comes. A refusal leaves nothing.
 ghost use mathlib.Core.Path.{_≡_};
-ghost use Prim.Native.Nat.{_+_, _≤_};
+ghost use Prim.Native.Nat.{_≤_};
 ghost use Rattle.rule.specs.Limits.{largestInstant};
 ghost use Rattle.rule.specs.Entries.{octetAt};
 ghost use Rattle.rule.specs.Port.{shown};
 ghost use Rattle.gatelist.specs.Coding.{entriesFrom};
 ghost use Rattle.port.specs.Coding.{decode, Fine};
 ghost use Rattle.port.specs.Acts.{Looks};
-ghost use Rattle.port.specs.Regime.{timesOf, Governs};
+ghost use Rattle.port.specs.Regime.{portOf};
 use crate::Looked;
 use crate::Port;
-use crate::record::well_formed;
-use crate::regime::Span;
+use crate::record::formed;
+use crate::regime::Times;
 use crate::regime::regime;
 use crate::regime::times_of;
 use rule::Refusal;
@@ -26,43 +26,28 @@ pub fn octet_in<'a>(octets: &'a [u8; 128], intervals: &'a [u32; 128], len: usize
     octets[i]
 }
 
-// What rules at t alone.
-fn span_at(p: Port, t: u64) -> Span
-    requires { ⌜ Fine p ⌝ }
-    requires { ⌜ (p .clock ≤ t) × (t ≤ largestInstant) ⌝ }
-    ensures { λ r. ⌜ Governs (timesOf p) t (t + 1) r ⌝ }
+// What a port whose lists stand in lent arrays shows at t, if no further act comes.
+pub fn shown_at<'a>(
+    x: Times,
+    os: &'a [u8; 128],
+    vs: &'a [u32; 128],
+    ws: &'a [u8; 128],
+    zs: &'a [u32; 128],
+    t: u64,
+) -> u8
+    requires { ⌜ Fine (portOf x (now os) (now vs) (now ws) (now zs)) ⌝ }
+    requires { ⌜ (x .clock ≤ t) × (t ≤ largestInstant) ⌝ }
+    ensures { λ r. ⌜ r ≡ shown (decode (portOf x (now (os .entry)) (now (vs .entry)) (now (ws .entry)) (now (zs .entry)))) t ⌝ }
 {
-    let x = times_of(p);
-    regime(x, t, t + 1)
-}
-
-// What a port shows at t, if no further act comes.
-pub fn shown_at(p: Port, t: u64) -> u8
-    requires { ⌜ Fine p ⌝ }
-    requires { ⌜ (p .clock ≤ t) × (t ≤ largestInstant) ⌝ }
-    ensures { λ r. ⌜ r ≡ shown (decode p) t ⌝ }
-{
-    let span = span_at(p, t);
+    let span = regime(x, t, t + 1);
     if span.flat {
-        return p.standing;
+        return x.standing;
     }
     let offset = t - span.start;
     if span.new {
-        let len = p.waiting.config.list.len;
-        return octet_in(
-            &p.waiting.config.list.octets,
-            &p.waiting.config.list.intervals,
-            len,
-            offset,
-        );
+        return octet_in(ws, zs, x.newlen, offset);
     }
-    let len = p.operating.list.len;
-    octet_in(
-        &p.operating.list.octets,
-        &p.operating.list.intervals,
-        len,
-        offset,
-    )
+    octet_in(os, vs, x.len, offset)
 }
 
 impl Port {
@@ -70,15 +55,31 @@ impl Port {
     pub fn look(self, t: u64) -> Looked
         ensures { λ r. ⌜ Looks self t r ⌝ }
     {
-        if !well_formed(self) {
+        let x = times_of(self);
+        let good = formed(
+            x,
+            &self.operating.list.octets,
+            &self.operating.list.intervals,
+            &self.waiting.config.list.octets,
+            &self.waiting.config.list.intervals,
+        );
+        if !good {
             return Looked::Refused(Refusal::MalformedPort);
         }
         if Port::LARGEST_INSTANT < t {
             return Looked::Refused(Refusal::AboveLargest);
         }
-        if t < self.clock {
+        if t < x.clock {
             return Looked::Refused(Refusal::BeforeClock);
         }
-        Looked::Octet(shown_at(self, t))
+        let octet = shown_at(
+            x,
+            &self.operating.list.octets,
+            &self.operating.list.intervals,
+            &self.waiting.config.list.octets,
+            &self.waiting.config.list.intervals,
+            t,
+        );
+        Looked::Octet(octet)
     }
 }

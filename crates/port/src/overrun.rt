@@ -7,6 +7,7 @@ ghost use Rattle.port.specs.Updates.{raised, withMark};
 use crate::Frame;
 use crate::Port;
 use crate::look::shown_at;
+use crate::regime::times_of;
 
 // A frame being sent whose gate is closed in the octet, and that is not counted.
 fn shut(f: Frame, octet: u8) -> bool
@@ -52,7 +53,15 @@ pub fn tested(p: Port) -> Port
 {
     let clock = p.clock;
     let f = p.frame;
-    let octet = shown_at(p, clock);
+    let x = times_of(p);
+    let octet = shown_at(
+        x,
+        &p.operating.list.octets,
+        &p.operating.list.intervals,
+        &p.waiting.config.list.octets,
+        &p.waiting.config.list.intervals,
+        clock,
+    );
     let met = shut(f, octet);
     marked(p, met)
 }

@@ -1,84 +1,49 @@
 // Refusal 14: whether a record is well formed, for any bit pattern of its fields; the records of absent parts; and the record of a new port.
 ghost use mathlib.Core.Path.{_≡_};
 ghost use Rattle.rule.specs.Port.{newPort};
-ghost use Rattle.gatelist.specs.Sound as gatelist;
-ghost use Rattle.port.specs.Record.{configOk, configNone, configFormed, operatingFormed, waitsInTime, waitingFormed, idleWhileOff, frameFormed};
-ghost use Rattle.port.specs.Coding.{encode, noConfig, noWaiting, noFrame, Checked};
+ghost use mathlib.Core.List.{List};
+ghost use Prim.Native.Nat.{ℕ};
+ghost use Rattle.port.specs.Record.{waitsInTime, frameFormed};
+ghost use Rattle.port.specs.Coding.{encode, noConfig, noWaiting, noFrame, ConfigChecked, Checked};
+ghost use Rattle.port.specs.Regime.{portOf};
 use crate::Config;
 use crate::Frame;
 use crate::Port;
 use crate::Waiting;
 use crate::numbers::minus;
+use crate::regime::Times;
+use crate::regime::times_of;
 use gatelist::GateList;
 
 // The longest time that a frame takes: 2,000 octets at 10 Mbit/s.
 const LONGEST_SPAN: u64 = 1_606_400;
 
-fn config_ok(g: Config) -> bool
-    ensures { λ r. ⌜ gatelist.Checked (g .list) r (configOk g) ⌝ }
+// A configuration whose list stands in two lent arrays.
+fn config_formed<'a>(
+    octets: &'a [u8; 128],
+    intervals: &'a [u32; 128],
+    len: usize,
+    cycle: u64,
+    extension: u64,
+    start: u64,
+    there: bool,
+) -> bool
+    ensures { λ r. ⌜ ConfigChecked (record { list = record { octets = now (octets .entry); intervals = now (intervals .entry); len = len }; cycle = cycle; extension = extension; start = start }) there r ⌝ }
 {
-    let list = g.list;
-    let listed = list.ok();
-    (1 <= g.cycle) & ((g.cycle <= Port::LARGEST_CYCLE) & listed)
-}
-
-fn config_none(g: Config) -> bool
-    ensures { λ r. ⌜ gatelist.Checked (g .list) r (configNone g) ⌝ }
-{
-    let list = g.list;
-    let none = list.none();
-    (g.cycle == 0) & ((g.extension == 0) & ((g.start == 0) & none))
-}
-
-fn config_formed(g: Config, there: bool) -> bool
-    ensures { λ r. ⌜ gatelist.Checked (g .list) r (configFormed there g) ⌝ }
-{
+    let listed = gatelist::formed(octets, intervals, len, there);
     if there {
-        return config_ok(g);
+        return (1 <= cycle) & ((cycle <= Port::LARGEST_CYCLE) & listed);
     }
-    config_none(g)
+    (cycle == 0) & ((extension == 0) & ((start == 0) & listed))
 }
 
-fn operating_formed(p: Port) -> bool
-    ensures { λ r. ⌜ gatelist.Checked (p .operating .list) r (operatingFormed p) ⌝ }
+fn waits_in_time(x: Times) -> bool
+    ensures { λ r. ⌜ ((os vs ws zs : List ℕ) → r ≡ waitsInTime (portOf x os vs ws zs)) ⌝ }
 {
-    let g = p.operating;
-    let operates = p.operates;
-    let start = g.start;
-    let clock = p.clock;
-    let formed = config_formed(g, operates);
-    (!operates | (start <= clock)) & formed
-}
-
-fn waits_in_time(p: Port) -> bool
-    ensures { λ r. ⌜ r ≡ waitsInTime p ⌝ }
-{
-    let since = p.waiting.since;
-    let clock = p.clock;
-    let change = p.waiting.config.start;
-    let start = p.operating.start;
-    let operates = p.operates;
-    (since <= clock)
-        & ((clock < change)
-            & ((change <= Port::LARGEST_INSTANT + Port::LARGEST_CYCLE)
-                & (!operates | (start <= since))))
-}
-
-fn waiting_formed(p: Port) -> bool
-    ensures { λ r. ⌜ gatelist.Checked (p .waiting .config .list) r (waitingFormed p) ⌝ }
-{
-    let g = p.waiting.config;
-    let waits = p.waits;
-    let since = p.waiting.since;
-    let in_time = waits_in_time(p);
-    let formed = config_formed(g, waits);
-    ((waits & in_time) | (!waits & (since == 0))) & formed
-}
-
-fn idle_while_off(p: Port) -> bool
-    ensures { λ r. ⌜ r ≡ idleWhileOff p ⌝ }
-{
-    p.on | (!p.operates & !p.waits)
+    (x.since <= x.clock)
+        & ((x.clock < x.change)
+            & ((x.change <= Port::LARGEST_INSTANT + Port::LARGEST_CYCLE)
+                & (!x.operates | (x.start <= x.since))))
 }
 
 fn frame_formed(f: Frame, clock: u64) -> bool
@@ -90,16 +55,47 @@ fn frame_formed(f: Frame, clock: u64) -> bool
         | (!f.present & ((f.class == 0) & ((f.start == 0) & ((f.end == 0) & !f.counted))))
 }
 
-// Whether none of the conditions of 14 fails.
+// Whether none of the conditions of 14 fails, for a port whose lists stand in lent arrays.
+pub fn formed<'a>(
+    x: Times,
+    os: &'a [u8; 128],
+    vs: &'a [u32; 128],
+    ws: &'a [u8; 128],
+    zs: &'a [u32; 128],
+) -> bool
+    ensures { λ r. ⌜ Checked (portOf x (now (os .entry)) (now (vs .entry)) (now (ws .entry)) (now (zs .entry))) r ⌝ }
+{
+    let idle = x.on | (!x.operates & !x.waits);
+    let old = config_formed(os, vs, x.len, x.cycle, x.extension, x.start, x.operates);
+    let operating = (!x.operates | (x.start <= x.clock)) & old;
+    let in_time = waits_in_time(x);
+    let new = config_formed(
+        ws,
+        zs,
+        x.newlen,
+        x.period,
+        x.newextension,
+        x.change,
+        x.waits,
+    );
+    let waiting = ((x.waits & in_time) | (!x.waits & (x.since == 0))) & new;
+    let f = x.frame;
+    let frame = frame_formed(f, x.clock);
+    (x.clock <= Port::LARGEST_INSTANT) & (idle & (operating & (waiting & frame)))
+}
+
+// The same for a port by value.
 pub fn well_formed(p: Port) -> bool
     ensures { λ r. ⌜ Checked p r ⌝ }
 {
-    let idle = idle_while_off(p);
-    let operating = operating_formed(p);
-    let waiting = waiting_formed(p);
-    let f = p.frame;
-    let frame = frame_formed(f, p.clock);
-    (p.clock <= Port::LARGEST_INSTANT) & (idle & (operating & (waiting & frame)))
+    let x = times_of(p);
+    formed(
+        x,
+        &p.operating.list.octets,
+        &p.operating.list.intervals,
+        &p.waiting.config.list.octets,
+        &p.waiting.config.list.intervals,
+    )
 }
 
 // The absent configuration.

@@ -8,21 +8,29 @@ ghost use Rattle.rule.specs.Limits.{largestInstant, largestCycle};
 ghost use Rattle.rule.specs.Entries.{Entry};
 ghost use Rattle.rule.specs.Cycle.{startNo, lastNo};
 ghost use Rattle.port.specs.Regime.{timesOf, configBy, Cycling, Pending, InTime, Governs};
+use crate::Frame;
 use crate::Port;
 use crate::numbers::least;
 use crate::numbers::minus;
 use crate::numbers::most;
 
-// The marks and instants of a port: of what operates, its start, cycle and extension; of what waits, the change instant, its cycle and since when.
+// A port without its lists and counters: the frame, the clock, the marks and the standing octet; of what operates, the length of its list, its cycle, its
+// extension and its start; of what waits, the same, the change instant being its start, and since when it waits.
 pub struct Times {
+    pub frame: Frame,
+    pub clock: u64,
     pub on: bool,
+    pub standing: u8,
     pub operates: bool,
-    pub start: u64,
+    pub len: usize,
     pub cycle: u64,
     pub extension: u64,
+    pub start: u64,
     pub waits: bool,
-    pub change: u64,
+    pub newlen: usize,
     pub period: u64,
+    pub newextension: u64,
+    pub change: u64,
     pub since: u64,
 }
 
@@ -39,15 +47,22 @@ pub struct Span {
 pub fn times_of(p: Port) -> Times
     ensures { λ r. ⌜ r ≡ timesOf p ⌝ }
 {
+    let frame = p.frame;
     Times {
+        frame,
+        clock: p.clock,
         on: p.on,
+        standing: p.standing,
         operates: p.operates,
-        start: p.operating.start,
+        len: p.operating.list.len,
         cycle: p.operating.cycle,
         extension: p.operating.extension,
+        start: p.operating.start,
         waits: p.waits,
-        change: p.waiting.config.start,
+        newlen: p.waiting.config.list.len,
         period: p.waiting.config.cycle,
+        newextension: p.waiting.config.extension,
+        change: p.waiting.config.start,
         since: p.waiting.since,
     }
 }

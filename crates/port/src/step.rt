@@ -7,8 +7,9 @@ ghost use Rattle.rule.proofs.Walk.{shutIn};
 ghost use Rattle.port.specs.Coding.{present, decodeFrame, decode, encode, Fine};
 ghost use Rattle.port.specs.Updates.{withMark, forgotten, installed};
 ghost use Rattle.rule.specs.Limits.{largestInstant};
-ghost use Rattle.port.specs.Walk.{Written, MetBy};
-ghost use Rattle.port.specs.Step.{Steps, Arrives};
+ghost use Rattle.port.specs.Regime.{portOf};
+ghost use Rattle.port.specs.Walk.{Written, MetBy, Goes, Courses};
+ghost use Rattle.port.specs.Step.{Steps};
 use crate::Frame;
 use crate::Port;
 use crate::StepAnswer;
@@ -16,9 +17,11 @@ use crate::Stepped;
 use crate::look::shown_at;
 use crate::numbers::most;
 use crate::overrun::marked;
+use crate::record::formed;
 use crate::record::no_frame;
 use crate::record::no_waiting;
-use crate::record::well_formed;
+use crate::regime::Times;
+use crate::regime::times_of;
 use crate::walk::walk_port;
 use rule::Refusal;
 
@@ -102,24 +105,63 @@ fn moved(p: Port, t: u64, hit: bool) -> Port
     r
 }
 
-// The walk to the goal, and the port where it ends.
-fn arrived(p: Port, goal: u64, instants: &mut [u64], octets: &mut [u8]) -> Stepped
-    requires { ⌜ Fine p ⌝ }
-    requires { ⌜ (p .clock ≤ goal) × (goal ≤ largestInstant) ⌝ }
-    ensures { λ r. ⌜ Arrives p goal (now (instants .entry)) (now (instants .exit)) (now (octets .entry)) (now (octets .exit)) r ⌝ }
+// What a step comes to: refused for a reason, or so many changes written, the instant that it reaches, and whether the frame met a closed gate on the way.
+pub enum Course {
+    Stays(Refusal),
+    Goes(usize, u64, bool),
+}
+
+// The walk to a goal that nothing refuses, on a port whose lists stand in lent arrays.
+fn going<'a>(
+    x: Times,
+    os: &'a [u8; 128],
+    vs: &'a [u32; 128],
+    ws: &'a [u8; 128],
+    zs: &'a [u32; 128],
+    goal: u64,
+    instants: &mut [u64],
+    octets: &mut [u8],
+) -> Course
+    requires { ⌜ Fine (portOf x (now os) (now vs) (now ws) (now zs)) ⌝ }
+    requires { ⌜ (x .clock ≤ goal) × (goal ≤ largestInstant) ⌝ }
+    ensures { λ r. ⌜ Goes (portOf x (now (os .entry)) (now (vs .entry)) (now (ws .entry)) (now (zs .entry))) goal (now (instants .entry)) (now (instants .exit)) (now (octets .entry)) (now (octets .exit)) r ⌝ }
 {
-    let clock = p.clock;
-    let octet = shown_at(p, clock);
-    let w = walk_port(p, octet, goal, instants, octets);
-    let f = p.frame;
+    let clock = x.clock;
+    let octet = shown_at(x, os, vs, ws, zs, clock);
+    let w = walk_port(x, os, vs, ws, zs, octet, goal, instants, octets);
+    let f = x.frame;
     let end = w.at;
     let written = w.written;
     let hit = met(f, octet, clock, end, written, instants, octets);
-    let port = moved(p, end, hit);
-    Stepped {
-        answer: StepAnswer::Written(written),
-        port,
+    Course::Goes(written, end, hit)
+}
+
+// The order of Step: 14, 9, 10, 11.
+fn outcome<'a>(
+    x: Times,
+    os: &'a [u8; 128],
+    vs: &'a [u32; 128],
+    ws: &'a [u8; 128],
+    zs: &'a [u32; 128],
+    goal: u64,
+    instants: &mut [u64],
+    octets: &mut [u8],
+) -> Course
+    ensures { λ r. ⌜ Courses (portOf x (now (os .entry)) (now (vs .entry)) (now (ws .entry)) (now (zs .entry))) goal (now (instants .entry)) (now (instants .exit)) (now (octets .entry)) (now (octets .exit)) r ⌝ }
+{
+    if !formed(x, os, vs, ws, zs) {
+        return Course::Stays(Refusal::MalformedPort);
     }
+    if Port::LARGEST_INSTANT < goal {
+        return Course::Stays(Refusal::AboveLargest);
+    }
+    if goal < x.clock {
+        return Course::Stays(Refusal::BeforeClock);
+    }
+    if Port::LARGEST_STEP < goal - x.clock {
+        return Course::Stays(Refusal::StepTooLong);
+    }
+    going(x, os, vs, ws, zs, goal, instants, octets)
 }
 
 impl Port {
@@ -127,30 +169,29 @@ impl Port {
     pub fn step(self, goal: u64, instants: &mut [u64], octets: &mut [u8]) -> Stepped
         ensures { λ r. ⌜ Steps self goal (now (instants .entry)) (now (instants .exit)) (now (octets .entry)) (now (octets .exit)) r ⌝ }
     {
-        if !well_formed(self) {
-            return Stepped {
-                answer: StepAnswer::Refused(Refusal::MalformedPort),
+        let x = times_of(self);
+        let c = outcome(
+            x,
+            &self.operating.list.octets,
+            &self.operating.list.intervals,
+            &self.waiting.config.list.octets,
+            &self.waiting.config.list.intervals,
+            goal,
+            instants,
+            octets,
+        );
+        match c {
+            Course::Stays(reason) => Stepped {
+                answer: StepAnswer::Refused(reason),
                 port: self,
-            };
+            },
+            Course::Goes(written, end, hit) => {
+                let port = moved(self, end, hit);
+                Stepped {
+                    answer: StepAnswer::Written(written),
+                    port,
+                }
+            }
         }
-        if Port::LARGEST_INSTANT < goal {
-            return Stepped {
-                answer: StepAnswer::Refused(Refusal::AboveLargest),
-                port: self,
-            };
-        }
-        if goal < self.clock {
-            return Stepped {
-                answer: StepAnswer::Refused(Refusal::BeforeClock),
-                port: self,
-            };
-        }
-        if Port::LARGEST_STEP < goal - self.clock {
-            return Stepped {
-                answer: StepAnswer::Refused(Refusal::StepTooLong),
-                port: self,
-            };
-        }
-        arrived(self, goal, instants, octets)
     }
 }

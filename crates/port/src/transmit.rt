@@ -5,14 +5,17 @@ ghost use mathlib.Core.Option.{none};
 ghost use Rattle.rule.specs.Orders.{any, speedOffered, headOffered};
 ghost use Rattle.port.specs.Coding.{present, decodeFrame};
 ghost use Rattle.port.specs.Answers.{answerOf, choiceOf};
-ghost use Rattle.port.specs.Transmit.{Stores, transmitRefusal};
+ghost use Rattle.port.specs.Regime.{portOf};
+ghost use Rattle.port.specs.Transmit.{Stores, Decides, transmitRefusal};
 use crate::Answer;
 use crate::Choice;
 use crate::Frame;
 use crate::Port;
 use crate::Transmitted;
 use crate::choosing::chosen;
-use crate::record::well_formed;
+use crate::record::formed;
+use crate::regime::Times;
+use crate::regime::times_of;
 use rule::Refusal;
 
 fn speed_offered(speed: u64) -> bool
@@ -69,25 +72,58 @@ fn answer_of(f: Frame) -> Choice
     Choice::Nothing
 }
 
+// What a transmit answers, and the frame of the port after it.
+pub struct Decided {
+    pub answer: Choice,
+    pub frame: Frame,
+}
+
+// The decision, on a port whose lists stand in lent arrays.
+fn decide<'a>(
+    x: Times,
+    os: &'a [u8; 128],
+    vs: &'a [u32; 128],
+    ws: &'a [u8; 128],
+    zs: &'a [u32; 128],
+    heads: [u64; 8],
+    speed: u64,
+) -> Decided
+    ensures { λ r. ⌜ Decides heads speed (portOf x (now (os .entry)) (now (vs .entry)) (now (ws .entry)) (now (zs .entry))) r ⌝ }
+{
+    let good = formed(x, os, vs, ws, zs);
+    let offered = speed_offered(speed);
+    let wrong = head_wrong(heads);
+    let f = x.frame;
+    let refusal = first_refusal(good, offered, f.present, wrong);
+    if let Answer::Refused(reason) = refusal {
+        return Decided {
+            answer: Choice::Refused(reason),
+            frame: f,
+        };
+    }
+    let frame = chosen(x, os, vs, ws, zs, heads, speed);
+    let answer = answer_of(frame);
+    Decided { answer, frame }
+}
+
 impl Port {
     // Chooses a frame, by the lengths at the heads of the eight queues (0: empty) and the speed in Mbit/s. It begins now. The overrun test that follows
     // the act finds the gate of a chosen class open, so nothing but the frame changes. Refused: 14, 13, 17, 12.
     pub fn transmit(self, heads: [u64; 8], speed: u64) -> Transmitted
         ensures { λ r. ⌜ Stores heads speed self r ⌝ }
     {
-        let formed = well_formed(self);
-        let offered = speed_offered(speed);
-        let wrong = head_wrong(heads);
-        let f = self.frame;
-        let refusal = first_refusal(formed, offered, f.present, wrong);
-        if let Answer::Refused(reason) = refusal {
-            return Transmitted {
-                answer: Choice::Refused(reason),
-                port: self,
-            };
-        }
-        let frame = chosen(self, heads, speed);
-        let answer = answer_of(frame);
+        let x = times_of(self);
+        let d = decide(
+            x,
+            &self.operating.list.octets,
+            &self.operating.list.intervals,
+            &self.waiting.config.list.octets,
+            &self.waiting.config.list.intervals,
+            heads,
+            speed,
+        );
+        let answer = d.answer;
+        let frame = d.frame;
         let mut port = self;
         port.frame = frame;
         Transmitted { answer, port }

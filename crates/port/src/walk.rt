@@ -6,15 +6,15 @@ ghost use lib.ListN.{length, getD};
 ghost use Rattle.rule.specs.Limits.{largestInstant};
 ghost use Rattle.rule.specs.Port.{shown};
 ghost use Rattle.port.specs.Coding.{decode, Fine};
+ghost use Rattle.port.specs.Regime.{portOf};
 ghost use Rattle.port.specs.Walk.{Passes, Walks, journeyOf, Ahead, WalksSpan};
 ghost use Rattle.port.specs.Cursor.{Enters, Placed, Onward, Advances};
 ghost use Rattle.port.specs.Stretch.{Spanned, WalksList, Uniform};
-use crate::Port;
 use crate::numbers::least;
 use crate::numbers::wide;
 use crate::regime::Span;
+use crate::regime::Times;
 use crate::regime::regime;
-use crate::regime::times_of;
 
 // How far a walk has come: the instant up to which every change is written, the octet shown there, how many are written; or that the next
 // change finds no room.
@@ -234,68 +234,65 @@ fn walk_ruled<'a>(
 }
 
 // Walks a span of a port from t on: the standing octet, or one of the port's two lists.
-fn walk_span(
-    p: Port,
+fn walk_span<'a>(
+    x: Times,
+    os: &'a [u8; 128],
+    vs: &'a [u32; 128],
+    ws: &'a [u8; 128],
+    zs: &'a [u32; 128],
     span: Span,
     t: u64,
     before: Walk,
     instants: &mut [u64],
     changed: &mut [u8],
 ) -> Walk
-    requires { ⌜ Fine p ⌝ }
-    requires { ⌜ Ahead p t span ⌝ }
-    ensures { λ r. ⌜ WalksSpan p span t before (now (instants .entry)) (now (changed .entry)) r (now (instants .exit)) (now (changed .exit)) ⌝ }
+    requires { ⌜ Fine (portOf x (now os) (now vs) (now ws) (now zs)) ⌝ }
+    requires { ⌜ Ahead x t span ⌝ }
+    ensures { λ r. ⌜ WalksSpan (portOf x (now (os .entry)) (now (vs .entry)) (now (ws .entry)) (now (zs .entry))) span t before (now (instants .entry)) (now (changed .entry)) r (now (instants .exit)) (now (changed .exit)) ⌝ }
 {
     let period = span.period;
     let base = span.start;
     let edge = span.edge;
     if span.flat {
-        return pass(p.standing, t, edge, before, instants, changed);
+        return pass(x.standing, t, edge, before, instants, changed);
     }
     if span.new {
-        let len = p.waiting.config.list.len;
         let s = Stretch {
-            len,
+            len: x.newlen,
             period,
             base,
             from: t,
             edge,
         };
-        return walk_ruled(
-            &p.waiting.config.list.octets,
-            &p.waiting.config.list.intervals,
-            s,
-            before,
-            instants,
-            changed,
-        );
+        return walk_ruled(ws, zs, s, before, instants, changed);
     }
-    let len = p.operating.list.len;
     let s = Stretch {
-        len,
+        len: x.len,
         period,
         base,
         from: t,
         edge,
     };
-    walk_ruled(
-        &p.operating.list.octets,
-        &p.operating.list.intervals,
-        s,
-        before,
-        instants,
-        changed,
-    )
+    walk_ruled(os, vs, s, before, instants, changed)
 }
 
 // Walks from the clock, where an octet is shown, to a goal, and writes each change; or to 1 ns before the first change that has no room.
-pub fn walk_port(p: Port, octet: u8, goal: u64, instants: &mut [u64], changed: &mut [u8]) -> Walk
-    requires { ⌜ Fine p ⌝ }
-    requires { ⌜ (octet ≡ shown (decode p) (p .clock)) × ((p .clock ≤ goal) × (goal ≤ largestInstant)) ⌝ }
-    ensures { λ r. ⌜ Walks (journeyOf p goal (now (instants .entry)) (now (changed .entry))) (r .at) (r .written) (now (instants .exit)) (now (changed .exit)) ⌝ }
+pub fn walk_port<'a>(
+    x: Times,
+    os: &'a [u8; 128],
+    vs: &'a [u32; 128],
+    ws: &'a [u8; 128],
+    zs: &'a [u32; 128],
+    octet: u8,
+    goal: u64,
+    instants: &mut [u64],
+    changed: &mut [u8],
+) -> Walk
+    requires { ⌜ Fine (portOf x (now os) (now vs) (now ws) (now zs)) ⌝ }
+    requires { ⌜ (octet ≡ shown (decode (portOf x (now os) (now vs) (now ws) (now zs))) (x .clock)) × ((x .clock ≤ goal) × (goal ≤ largestInstant)) ⌝ }
+    ensures { λ r. ⌜ Walks (journeyOf (portOf x (now (os .entry)) (now (vs .entry)) (now (ws .entry)) (now (zs .entry))) goal (now (instants .entry)) (now (changed .entry))) (r .at) (r .written) (now (instants .exit)) (now (changed .exit)) ⌝ }
 {
-    let x = times_of(p);
-    let clock = p.clock;
+    let clock = x.clock;
     let mut t = clock + 1;
     let mut w = Walk {
         at: clock,
@@ -305,7 +302,7 @@ pub fn walk_port(p: Port, octet: u8, goal: u64, instants: &mut [u64], changed: &
     };
     while t <= goal {
         let span = regime(x, t, goal + 1);
-        w = walk_span(p, span, t, w, instants, changed);
+        w = walk_span(x, os, vs, ws, zs, span, t, w, instants, changed);
         if w.full {
             return w;
         }

@@ -1,47 +1,40 @@
--- `gatelist::intervals_ok` meets its contract: the loop's invariant is that `good` says it of the places before k; the measure is what is left of the
--- 128 places.
+-- `gatelist::intervals_ok` meets its contract: the loop's invariant is that `zero` denies it of the places before i; the measure is what is left of the used
+-- places.
 -- Assumes nothing.
 use mathlib.Core.Path.{_≡_, refl, ap, _∙_}
-use mathlib.Core.Bool.{Bool}
-use mathlib.Core.List.{List, []}
+use mathlib.Core.Bool.{Bool, not}
+use mathlib.Core.List.{List}
 use Prim.Native.Nat.{ℕ, _≤_, _-_, min}
 use native.Mathlib.Omega.{arith}
 use borrow.Author.Needs.{needs}
 use Rattle.gatelist.specs.Sound.{everyBelow, usedOk}
-use Rattle.gatelist.proofs.Sound.{every-more, used-capped, used-test}
+use Rattle.gatelist.proofs.Sound.{twice, used-more, used-end}
 use Rattle.gatelist.proofs.intervals_ok.Statement.{statement}
 use Rattle.gatelist.proofs.intervals_ok.Tie as tie
 
-record Inv (intervals : List ℕ) (len n : ℕ) (good : Bool) (k i : ℕ) : Type 0 where
-  within : i ≤ 128
-  counted : k ≡ i
+record Inv (intervals : List ℕ) (len n : ℕ) (zero : Bool) (i : ℕ) : Type 0 where
+  within : i ≤ n
   capped : n ≡ min len 128
-  so-far : good ≡ everyBelow (usedOk intervals len) i
+  so-far : zero ≡ not (everyBelow (usedOk intervals len) i)
 
 abbrev Inv-loop : tie.InvT-loop
-Inv-loop intervals len n good₀ k₀ i₀ good k i = Inv intervals len n good k i
+Inv-loop intervals len n zero₀ i₀ zero i = Inv intervals len n zero i
 
 abbrev μ-loop : tie.MeasureT-loop
-μ-loop intervals len n good₀ k₀ i₀ good k i = 128 - i
+μ-loop intervals len n zero₀ i₀ zero i = n - i
 
 at-most-max-requires : tie.Need-at-most-max-requires Inv-loop μ-loop
 at-most-max-requires c κs = search needs
 
-cast-n : tie.Need-cast-n Inv-loop μ-loop
-cast-n c = search needs
-
 loop-holds : tie.Need-loop-holds Inv-loop μ-loop
 unfolding everyBelow
-loop-holds c = record { within = search needs; counted = search needs; capped = search needs; so-far = refl }
+loop-holds c = record { within = search needs; capped = search needs; so-far = refl }
 
-mul-v : tie.Need-mul-v Inv-loop μ-loop
-mul-v c = search needs
+mul-zero : tie.Need-mul-zero Inv-loop μ-loop
+mul-zero c = search needs
 
-element-copy-out-v : tie.Need-element-copy-out-v Inv-loop μ-loop
-element-copy-out-v c = search needs
-
-add-k : tie.Need-add-k Inv-loop μ-loop
-add-k c = search needs
+element-copy-out-zero : tie.Need-element-copy-out-zero Inv-loop μ-loop
+element-copy-out-zero c = search needs
 
 add-i : tie.Need-add-i Inv-loop μ-loop
 add-i c = search needs
@@ -53,20 +46,18 @@ loop-again : tie.Need-loop-again Inv-loop μ-loop
 loop-again c =
     let l = c .before .before .loop in
     let a = c .before .before .before .before .args in
-    let u = used-capped (l .i) (l .k) _ (a .len) (l .inv .counted) (omega arith) (l .inv .capped) in
     record {
       within = search needs;
-      counted = search needs;
       capped = search needs;
-      so-far = every-more _ (l .i) _ _ (l .inv .so-far) (used-test [] (a .intervals .now) (a .len) (l .i) _ u);
+      so-far = used-more (a .intervals .now) (a .len) (l .i) _ (l .inv .so-far) (omega (arith, l .inv .capped));
     }
 
 returns : tie.Need-returns Inv-loop μ-loop
 returns c =
     let l = c .before .loop in
     let a = c .before .before .before .args in
-    let e : l .i ≡ 128 = omega arith in
-    l .inv .so-far ∙ ap (everyBelow (usedOk (a .intervals .now) (a .len))) e
+    let e : l .i ≡ min (a .len) 128 = omega (arith, l .inv .capped, l .inv .within) in
+    ap not (l .inv .so-far) ∙ twice (everyBelow (usedOk (a .intervals .now) (a .len)) (l .i)) ∙ used-end (a .intervals .now) (a .len) (l .i) e
 
 pub intervals-ok-spec : {M : Type 1} → statement M
 intervals-ok-spec =
@@ -75,11 +66,9 @@ intervals-ok-spec =
     Inv-loop
     μ-loop
     at-most-max-requires
-    cast-n
     loop-holds
-    mul-v
-    element-copy-out-v
-    add-k
+    mul-zero
+    element-copy-out-zero
     add-i
     loop-less
     loop-again

@@ -1,34 +1,27 @@
--- `port::Port::step` meets its contract: each test of the order refuses, and past them the step arrives.
+-- `port::Port::step` meets its contract: its course looks at the port's times and lists alone, and the port is moved to where that ends.
 -- Assumes nothing.
-use mathlib.Core.Path.{sym, _∙_}
-use native.Mathlib.Omega.{arith}
-use borrow.Author.Tests.{not-true, not-false}
-use Rattle.port.proofs.Stepping.{step-malformed, step-above, step-before, step-far, step-done}
+use Rattle.port.proofs.Stepping.{step-stays, step-goes, course-fine}
 use borrow.Author.Needs.{needs}
 use Rattle.port.proofs.Port.step.Statement.{statement}
 use Rattle.port.proofs.Port.step.Tie as tie
 
-well-formed-requires : tie.Need-well-formed-requires
-well-formed-requires c κs = search needs
+times-of-requires : tie.Need-times-of-requires
+times-of-requires c κs = search needs
 
-returns : tie.Need-returns
-returns c = let a = c .before .before .before .before .args in
-    step-malformed (a .self) (a .goal) (a .instants .now) (a .octets .now) (sym (c .before .well-formed .ensures .is) ∙ not-true _ (c .if1 .taken))
+outcome-requires : tie.Need-outcome-requires
+outcome-requires c κs = search needs
 
-returns-2 : tie.Need-returns-2
-returns-2 c = let a = c .before .before .before .before .before .args in
-    step-above (a .self) (a .goal) (a .instants .now) (a .octets .now) (sym (c .before .before .well-formed .ensures .is) ∙ not-false _ (c .before .if1 .left)) (omega arith)
+enum-known-c : tie.Need-enum-known-c
+enum-known-c c = search needs
 
-returns-3 : tie.Need-returns-3
-returns-3 c = let a = c .before .before .before .before .before .before .before .args in
-    step-before (a .self) (a .goal) (a .instants .now) (a .octets .now) (sym (c .before .before .before .before .well-formed .ensures .is) ∙ not-false _ (c .before .before .before .if1 .left)) (omega arith) (omega arith)
+enum-known-c-2 : tie.Need-enum-known-c-2
+enum-known-c-2 c = search needs
 
-returns-4 : tie.Need-returns-4
-returns-4 c = let a = c .before .before .before .before .before .before .before .before .before .args in
-    step-far (a .self) (a .goal) (a .instants .now) (a .octets .now) (sym (c .before .before .before .before .before .before .well-formed .ensures .is) ∙ not-false _ (c .before .before .before .before .before .if1 .left)) (omega arith) (omega arith) (omega arith)
-
-arrived-requires : tie.Need-arrived-requires
-arrived-requires c κs = (c .before .before .before .before .before .before .before .before .well-formed .ensures .fine (not-false _ (c .before .before .before .before .before .before .before .if1 .left)), (omega arith, omega arith))
+moved-requires : tie.Need-moved-requires
+moved-requires c κs =
+    let a = c .before .before .before .before .before .before .before .before .before .before .before .before .before .before .before .before .before .before .args in
+    let o = c .before .before .before .before .before .before .before .outcome in
+    course-fine (a .t1) (a .goal) (a .instants .now) _ (a .octets .now) _ _ (c .before .before .before .before .before .before .before .before .before .before .before .before .before .before .before .times-of .ensures) (o .result) (o .ensures) _ _ _ (c .before .c2 .given .1)
 
 same-length : tie.Need-same-length
 same-length c = search needs
@@ -36,21 +29,36 @@ same-length c = search needs
 same-length-2 : tie.Need-same-length-2
 same-length-2 c = search needs
 
-returns-5 : tie.Need-returns-5
-returns-5 c = let a = c .before .before .before .before .before .before .before .before .before .before .before .before .before .before .before .before .args in
-    step-done (a .self) (a .goal) (a .instants .now) (a .octets .now) (sym (c .before .before .before .before .before .before .before .before .before .before .before .before .before .well-formed .ensures .is) ∙ not-false _ (c .before .before .before .before .before .before .before .before .before .before .before .before .if1 .left)) _ _ (c .before .before .before .before .arrived .result) (omega arith) (omega arith) (omega arith)
-    (c .before .before .before .before .arrived .ensures)
+returns : tie.Need-returns
+returns c =
+    let a = c .before .before .before .before .before .before .before .before .before .before .before .before .before .before .before .before .before .before .args in
+    let o = c .before .before .before .before .before .before .before .outcome in
+    step-stays (a .t1) (a .goal) (a .instants .now) _ (a .octets .now) _ _ (c .before .before .before .before .before .before .before .before .before .before .before .before .before .before .before .times-of .ensures) (o .result) (o .ensures) _ (c .before .c .given .1)
+
+same-length-3 : tie.Need-same-length-3
+same-length-3 c = search needs
+
+same-length-4 : tie.Need-same-length-4
+same-length-4 c = search needs
+
+returns-2 : tie.Need-returns-2
+returns-2 c =
+    let a = c .before .before .before .before .before .before .before .before .before .before .before .before .before .before .before .before .before .before .before .args in
+    let o = c .before .before .before .before .before .before .before .before .outcome in
+    step-goes (a .t1) (a .goal) (a .instants .now) _ (a .octets .now) _ _ (c .before .before .before .before .before .before .before .before .before .before .before .before .before .before .before .before .times-of .ensures) (o .result) (o .ensures) _ _ _ (c .before .before .c2 .given .1) (c .moved .result) (c .moved .ensures)
 
 pub step-spec : {M : Type 1} → statement M
 step-spec =
     tie.close
     (tie.spec
-    well-formed-requires
-    returns
-    returns-2
-    returns-3
-    returns-4
-    arrived-requires
+    times-of-requires
+    outcome-requires
+    enum-known-c
+    enum-known-c-2
+    moved-requires
     same-length
     same-length-2
-    returns-5)
+    returns
+    same-length-3
+    same-length-4
+    returns-2)

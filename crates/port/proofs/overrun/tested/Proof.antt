@@ -6,12 +6,20 @@ use borrow.Author.Needs.{needs}
 use Rattle.rule.specs.Port as model
 use Rattle.port.specs.Coding.{decode, encode}
 use Rattle.port.specs.Updates.{withMark}
+use Rattle.port.proofs.Lean.{fine-timed, shown-timed}
 use Rattle.port.proofs.Spans.{clock-fine}
 use Rattle.port.proofs.overrun.tested.Statement.{statement}
 use Rattle.port.proofs.overrun.tested.Tie as tie
 
+times-of-requires : tie.Need-times-of-requires
+times-of-requires c κs = search needs
+
 shown-at-requires : tie.Need-shown-at-requires
-shown-at-requires c κs = (c .before .pre, (omega arith, clock-fine (c .before .args .p) (c .before .pre)))
+shown-at-requires c κs =
+    let t = c .before .before .before .before .before in
+    let s = t .before .before in
+    let e = t .times-of .ensures in
+    (fine-timed (s .args .t1) _ e (s .pre), (rw e (omega arith), clock-fine (s .args .t1) (s .pre)))
 
 shut-requires : tie.Need-shut-requires
 shut-requires c κs = search needs
@@ -22,9 +30,19 @@ marked-requires c κs = search needs
 returns : tie.Need-returns
 unfolding decode model.shownNow
 returns c =
-    let p = c .before .before .before .before .args .p in
+    let t = c .before .before .before .before .before .before .before .before in
+    let p = t .before .before .args .t1 in
     c .marked .ensures
-    ∙ ap (λ b. encode (withMark b (decode p))) (c .before .shut .ensures ∙ ap (λ o. model.overran o (decode p .frame)) (c .before .before .shown-at .ensures))
+    ∙ ap (λ b. encode (withMark b (decode p)))
+    (c .before .shut .ensures
+    ∙ ap (λ o. model.overran o (decode p .frame)) (c .before .before .shown-at .ensures ∙ ap (λ s. s (p .clock)) (shown-timed p _ (t .times-of .ensures))))
 
 pub tested-spec : {M : Type 1} → statement M
-tested-spec = tie.close (tie.spec shown-at-requires shut-requires marked-requires returns)
+tested-spec =
+    tie.close
+    (tie.spec
+    times-of-requires
+    shown-at-requires
+    shut-requires
+    marked-requires
+    returns)

@@ -11,7 +11,7 @@ add-result c = search needs
 
 returns : tie.Need-returns
 unfolding waitsInTime
-returns c = refl
+returns c = λ os vs ws zs. refl
 
 pub waits-in-time-spec : {M : Type 1} → statement M
 waits-in-time-spec = tie.close (tie.spec add-result returns)

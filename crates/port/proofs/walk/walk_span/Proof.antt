@@ -1,6 +1,8 @@
 -- `port::walk::walk_span` meets its contract: the standing octet is passed, and a list that rules is walked.
 -- Assumes nothing.
 use mathlib.Core.Bool.{true, false}
+use Rattle.port.specs.declared.Port.{Port}
+use Rattle.port.specs.Regime.{portOf}
 use Rattle.port.proofs.Spanning.{span-flat, span-spanned, span-walks}
 use borrow.Author.Needs.{needs}
 use Rattle.port.proofs.walk.walk_span.Statement.{statement}
@@ -16,12 +18,18 @@ same-length-2 : tie.Need-same-length-2
 same-length-2 c = search needs
 
 returns : tie.Need-returns
-returns c = let a = c .before .before .before .before .before .before .before .before .before .before .args in
-    span-flat (a .t1) (a .t) (a .span) (c .before .before .before .before .before .before .before .before .before .before .pre .1) (c .before .before .before .before .before .before .before .if1 .taken) (a .before) (a .instants .now) (a .changed .now) (c .before .before .before .before .pass .result) _ _ (c .before .before .before .before .pass .ensures)
+returns c =
+    let s = c .before .before .before .before .before .before .before .before .before .before in
+    let a = s .args in
+    let p : Port = portOf (a .x) (a .os .now) (a .vs .now) (a .ws .now) (a .zs .now) in
+    span-flat p (a .t) (a .span) (s .pre .1) (c .before .before .before .before .before .before .before .if1 .taken) (a .before) (a .instants .now) (a .changed .now) (c .before .before .before .before .pass .result) _ _ (c .before .before .before .before .pass .ensures)
 
 walk-ruled-requires : tie.Need-walk-ruled-requires
-walk-ruled-requires c κs = let a = c .before .before .before .before .before .before .before .before .before .args in
-    span-spanned (a .t1) (a .t) (a .span) (c .before .before .before .before .before .before .before .before .before .pre .1) (c .before .before .before .before .before .before .if1 .left) true (c .before .before .before .before .before .if2 .taken) (c .before .before .before .before .before .before .before .before .before .pre .0)
+walk-ruled-requires c κs =
+    let s = c .before .before .before .before .before .before in
+    let a = s .args in
+    let p : Port = portOf (a .x) (a .os .now) (a .vs .now) (a .ws .now) (a .zs .now) in
+    span-spanned p (a .t) (a .span) (s .pre .1) (c .before .before .before .if1 .left) true (c .before .before .if2 .taken) (s .pre .0)
 
 same-length-3 : tie.Need-same-length-3
 same-length-3 c = search needs
@@ -30,13 +38,19 @@ same-length-4 : tie.Need-same-length-4
 same-length-4 c = search needs
 
 returns-2 : tie.Need-returns-2
-returns-2 c = let a = c .before .before .before .before .before .before .before .before .before .before .before .before .before .before .args in
-    span-walks (a .t1) (a .t) (a .span) (c .before .before .before .before .before .before .before .before .before .before .before .before .before .before .pre .1) (c .before .before .before .before .before .before .before .before .before .before .before .if1 .left) true (c .before .before .before .before .before .before .before .before .before .before .if2 .taken) (a .before) (a .instants .now) (a .changed .now) (c .before .before .before .before .walk-ruled .result) _ _
+returns-2 c =
+    let s = c .before .before .before .before .before .before .before .before .before .before .before in
+    let a = s .args in
+    let p : Port = portOf (a .x) (a .os .now) (a .vs .now) (a .ws .now) (a .zs .now) in
+    span-walks p (a .t) (a .span) (s .pre .1) (c .before .before .before .before .before .before .before .before .if1 .left) true (c .before .before .before .before .before .before .before .if2 .taken) (a .before) (a .instants .now) (a .changed .now) (c .before .before .before .before .walk-ruled .result) _ _
     (c .before .before .before .before .walk-ruled .ensures)
 
 walk-ruled-requires-2 : tie.Need-walk-ruled-requires-2
-walk-ruled-requires-2 c κs = let a = c .before .before .before .before .before .before .before .before .before .args in
-    span-spanned (a .t1) (a .t) (a .span) (c .before .before .before .before .before .before .before .before .before .pre .1) (c .before .before .before .before .before .before .if1 .left) false (c .before .before .before .before .before .if2 .left) (c .before .before .before .before .before .before .before .before .before .pre .0)
+walk-ruled-requires-2 c κs =
+    let s = c .before .before .before .before .before .before in
+    let a = s .args in
+    let p : Port = portOf (a .x) (a .os .now) (a .vs .now) (a .ws .now) (a .zs .now) in
+    span-spanned p (a .t) (a .span) (s .pre .1) (c .before .before .before .if1 .left) false (c .before .before .if2 .left) (s .pre .0)
 
 same-length-5 : tie.Need-same-length-5
 same-length-5 c = search needs
@@ -45,8 +59,11 @@ same-length-6 : tie.Need-same-length-6
 same-length-6 c = search needs
 
 returns-3 : tie.Need-returns-3
-returns-3 c = let a = c .before .before .before .before .before .before .before .before .before .before .before .before .before .before .args in
-    span-walks (a .t1) (a .t) (a .span) (c .before .before .before .before .before .before .before .before .before .before .before .before .before .before .pre .1) (c .before .before .before .before .before .before .before .before .before .before .before .if1 .left) false (c .before .before .before .before .before .before .before .before .before .before .if2 .left) (a .before) (a .instants .now) (a .changed .now) (c .before .before .before .before .walk-ruled2 .result) _ _
+returns-3 c =
+    let s = c .before .before .before .before .before .before .before .before .before .before .before in
+    let a = s .args in
+    let p : Port = portOf (a .x) (a .os .now) (a .vs .now) (a .ws .now) (a .zs .now) in
+    span-walks p (a .t) (a .span) (s .pre .1) (c .before .before .before .before .before .before .before .before .if1 .left) false (c .before .before .before .before .before .before .before .if2 .left) (a .before) (a .instants .now) (a .changed .now) (c .before .before .before .before .walk-ruled2 .result) _ _
     (c .before .before .before .before .walk-ruled2 .ensures)
 
 pub walk-span-spec : {M : Type 1} → statement M

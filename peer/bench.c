@@ -1,6 +1,8 @@
-/* bench CASE N: does CASE N times and prints a checksum. What each case sets
- * up stands in README.md. Timing is left to the caller. */
+/* bench CASE N: does CASE N times and prints a checksum; bench all N: every
+ * case. What each case sets up stands in README.md. Counting is left to the
+ * caller: ../bench/run. */
 #include <inttypes.h>
+#include <stdbool.h>
 #include <stdio.h>
 #include <stdlib.h>
 #include <string.h>
@@ -142,58 +144,77 @@ static uint64_t run_check(uint64_t times)
     return sum;
 }
 
-int main(int argc, char **argv)
+static const char *const cases[] = {
+    "read128", "write128", "submit", "look", "check14", "step128", "step2", "quiet", "quiet1",
+    "transmit-first", "transmit-none", "transmit-10",
+};
+
+static uint64_t run(const char *name, uint64_t times)
 {
-    if (argc != 3) {
-        fputs("usage: bench CASE N\n", stderr);
-        return 2;
-    }
-    const char *name = argv[1];
-    const uint64_t times = strtoull(argv[2], NULL, 10);
-    uint64_t sum;
-    if (strcmp(name, "read128") == 0) {
-        sum = run_read(times);
-    } else if (strcmp(name, "write128") == 0) {
-        sum = run_write(times);
-    } else if (strcmp(name, "submit") == 0) {
-        sum = run_submit(times);
-    } else if (strcmp(name, "look") == 0) {
-        sum = run_look(times);
-    } else if (strcmp(name, "step128") == 0) {
+    memset(&list, 0, sizeof list);
+    if (strcmp(name, "read128") == 0)
+        return run_read(times);
+    if (strcmp(name, "write128") == 0)
+        return run_write(times);
+    if (strcmp(name, "submit") == 0)
+        return run_submit(times);
+    if (strcmp(name, "look") == 0)
+        return run_look(times);
+    if (strcmp(name, "check14") == 0)
+        return run_check(times);
+    if (strcmp(name, "step128") == 0) {
         octets_counting();
         set_up(128, 1000, 128, 1000000);
-        sum = run_steps(times, 1000000);
-    } else if (strcmp(name, "step2") == 0) {
+        return run_steps(times, 1000000);
+    }
+    if (strcmp(name, "step2") == 0) {
         list.octets[0] = 0x80;
         list.octets[1] = 0x01;
         set_up(2, 1000, 2, 1000000);
-        sum = run_steps(times, 1000000);
-    } else if (strcmp(name, "quiet") == 0) {
+        return run_steps(times, 1000000);
+    }
+    if (strcmp(name, "quiet") == 0) {
         memset(list.octets, 0x80, sizeof list.octets);
         set_up(128, 1, 128, 1000000000);
-        sum = run_steps(times, 1000000000);
-    } else if (strcmp(name, "quiet1") == 0) {
+        return run_steps(times, 1000000000);
+    }
+    if (strcmp(name, "quiet1") == 0) {
         octets_counting();
         set_up(128, 1, 1, 1000000000);
-        sum = run_steps(times, 1000000000);
-    } else if (strcmp(name, "transmit-first") == 0) {
+        return run_steps(times, 1000000000);
+    }
+    if (strcmp(name, "transmit-first") == 0) {
         octets_counting();
         set_up(128, 125, 16, 1000000);
-        sum = run_transmits(times, 1500, 1000);
-    } else if (strcmp(name, "transmit-none") == 0) {
+        return run_transmits(times, 1500, 1000);
+    }
+    if (strcmp(name, "transmit-none") == 0) {
         octets_closing(0x00);
         set_up(128, 125, 16, 1000000);
-        sum = run_transmits(times, 2000, 1000);
-    } else if (strcmp(name, "transmit-10") == 0) {
-        octets_closing(0x80);
-        set_up(128, 125, 16, 1000000);
-        sum = run_transmits(times, 2000, 10);
-    } else if (strcmp(name, "check14") == 0) {
-        sum = run_check(times);
-    } else {
+        return run_transmits(times, 2000, 1000);
+    }
+    octets_closing(0x80); /* transmit-10 */
+    set_up(128, 125, 16, 1000000);
+    return run_transmits(times, 2000, 10);
+}
+
+int main(int argc, char **argv)
+{
+    if (argc != 3) {
+        fputs("usage: bench CASE N, or bench all N\n", stderr);
+        return 2;
+    }
+    const uint64_t times = strtoull(argv[2], NULL, 10);
+    bool known = false;
+    for (size_t k = 0; k < sizeof cases / sizeof *cases; k++) {
+        if (strcmp(argv[1], "all") != 0 && strcmp(argv[1], cases[k]) != 0)
+            continue;
+        known = true;
+        printf("%s %" PRIu64 " checksum %" PRIu64 "\n", cases[k], times, run(cases[k], times));
+    }
+    if (!known) {
         fputs("bench: no such case\n", stderr);
         return 2;
     }
-    printf("%s %" PRIu64 " checksum %" PRIu64 "\n", name, times, sum);
     return 0;
 }

@@ -11,6 +11,9 @@ pub mod Walking
 pub mod Pointing
 pub mod Stretching
 pub mod Spanning
+pub mod Repeating
+pub mod Rounds
+pub mod Rounding
 pub mod Meeting
 pub mod Moving
 pub mod Stepping

@@ -1,21 +1,18 @@
--- The walk of one stretch: how it begins, what a pass leaves, how it goes on to the next entry.
+-- The walk of one stretch, entry by entry: how it begins, what a pass leaves, how it goes on to the next entry; and of a list whose octets are one. The
+-- walk by rounds is in `Rounding`.
 -- Assumes nothing.
 use mathlib.Core.Path.{_≡_, refl, ap, sym, _∙_, subst, subst⁻¹}
-use mathlib.Core.Bool.{Bool, true, false, true≢false}
+use mathlib.Core.Bool.{Bool, true, false, _&&_, true≢false}
 use mathlib.Core.List.{List}
-use Prim.Native.Nat.{ℕ, zero, suc, _+_, _-_, _*_, _≤_, _<_, min}
-use native.Mathlib.Nat.{add-zero}
+use Prim.Native.Nat.{ℕ, _+_, _-_, _≤_, _<_, min}
 use native.Mathlib.Omega.{arith}
 use lib.ListN.{getD}
-use lib.Dec.{ltb}
-use borrow.Author.Tests.{ltb-true, ltb-false}
+use lib.Dec.{eqb, ltb}
+use borrow.Author.Tests.{eqb-true, ltb-true, ltb-false}
 use Rattle.rule.specs.Entries.{entryNo, octetAt}
-use Rattle.rule.specs.Cycle.{Config, Valid, startNo, cycleNo, plainStart, plainOctet}
-use Rattle.rule.proofs.Cycles.{plain-le, next-start}
-use Rattle.rule.proofs.Regime.{next-is}
+use Rattle.rule.specs.Cycle.{Config, plainStart, plainOctet}
 use Rattle.gatelist.specs.Coding.{entriesFrom}
-use Rattle.gatelist.specs.Lookup.{sumTo}
-use Rattle.gatelist.proofs.Lookup.{sum-more, number-holds, number-octet}
+use Rattle.gatelist.proofs.Lookup.{number-holds, number-octet}
 use Rattle.port.specs.declared.walk.Walk.{Walk}
 use Rattle.port.specs.declared.walk.Cursor.{Cursor}
 use Rattle.port.specs.declared.walk.Stretch.{Stretch}
@@ -164,60 +161,28 @@ module _ (os vs : List ℕ) (n period edge : ℕ) (c₀ : Cursor) (w₀ : Walk) 
             (λ f j y x. points-wrap f (y .valid) os vs n (y .list) c c′ x m
             (subst⁻¹ (λ v. Enters vs n 0 (c .next) (c .next + v) c′) (y .cycle) (a .wraps l)))
 
--- a list that shows one octet all through a cycle: what a loop over its entries finds
+-- a list whose octets are one shows it, all through its cycles
 
--- the first i + 1 entries have one octet, and those before entry i take some time
-pub record Alike (os vs : List ℕ) (i sum : ℕ) : Type 0 where
-  pub adds : sum ≡ sumTo vs i
-  pub small : sum ≤ i * 4294967296
-  pub same : (k : ℕ) → k ≤ i → getD os k 0 ≡ getD os 0 0
-
-pub alike-start : (os vs : List ℕ) → Alike os vs 0 0
-unfolding sumTo
-alike-start os vs = record { adds = refl; small = omega arith; same = λ k h. let e : k ≡ 0 = omega arith in ap (λ i. getD os i 0) e }
-
-pub alike-more : (os vs : List ℕ) (i sum v : ℕ) → Alike os vs i sum → v ≡ getD vs i 0 → v < 4294967296 → getD os (i + 1) 0 ≡ getD os 0 0 → Alike os vs (i + 1) (sum + v)
-alike-more os vs i sum v a e l q = record {
-  adds = omega (arith, a .adds, sum-more vs i);
-  small = omega (arith, a .small);
-  same = λ k h. pick k h (ltb i k) refl;
-}
+-- one octet more
+pub uniform-more : (os : List ℕ) (i : ℕ) (b : Bool) → (b ≡ true → Uniform os i) → b && eqb (getD os i 0) (getD os 0 0) ≡ true → Uniform os (i + 1)
+uniform-more os i false u e k h = absurd (true≢false (sym e))
+uniform-more os i true u e k h = pick (ltb k i) refl
   where
-    pick : (k : ℕ) → k ≤ i + 1 → (b : Bool) → ltb i k ≡ b → getD os k 0 ≡ getD os 0 0
-    pick k h true z = let l = ltb-true i k z in let w : k ≡ i + 1 = omega arith in ap (λ j. getD os j 0) w ∙ q
-    pick k h false z = a .same k (ltb-false i k z)
+    pick : (b : Bool) → ltb k i ≡ b → getD os k 0 ≡ getD os 0 0
+    pick true z = u refl k (ltb-true k i z)
+    pick false z =
+        let l = ltb-false k i z in
+        let q : k ≡ i = omega arith in
+        ap (λ j. getD os j 0) q ∙ eqb-true (getD os i 0) (getD os 0 0) e
 
-sum-mono : (vs : List ℕ) (i k : ℕ) → sumTo vs i ≤ sumTo vs (i + k)
-sum-mono vs i zero = rw add-zero (omega arith)
-sum-mono vs i (suc k) = let e : i + suc k ≡ (i + k) + 1 = omega arith in rw e (omega (arith, sum-mono vs i k, sum-more vs (i + k)))
-
--- the cycle ends with entry i or before, or entry i is the last
-pub alike-uniform : (os vs : List ℕ) (n i sum period : ℕ) → 1 ≤ n → Alike os vs i sum → (i + 1 < n → period ≤ sum + getD vs i 0) → Uniform os vs n period
-alike-uniform os vs n i sum period s a k o h =
-    let x : ℕ = entryNo (entriesFrom os vs 0 n) o in
-    let p = number-holds os vs n o s in
-    number-octet os vs n o s ∙ a .same x (go x (p .one) (p .from) (ltb i x) refl)
-  where
-    go : (x : ℕ) → x < n → sumTo vs x ≤ o → (b : Bool) → ltb i x ≡ b → x ≤ i
-    go x l f true z =
-        let b = ltb-true i x z in
-        let e : x ≡ (i + 1) + (x - (i + 1)) = omega arith in
-        let m : sumTo vs (i + 1) ≤ sumTo vs x = subst⁻¹ (λ j. sumTo vs (i + 1) ≤ sumTo vs j) e (sum-mono vs (i + 1) (x - (i + 1))) in
-        absurd (omega (arith, k (omega arith), sum-more vs i, a .adds))
-    go x l f false z = ltb-false i x z
-
-pub uniform-octet : (f : Config) → Valid f → (os vs : List ℕ) (n : ℕ) → f .list ≡ entriesFrom os vs 0 n → Uniform os vs n (f .cycle)
-    → (v : ℕ) → f .start ≤ v → plainOctet f v ≡ getD os 0 0
+-- it is shown at every instant
+pub uniform-octet : (f : Config) → (os vs : List ℕ) (n : ℕ) → 1 ≤ n → f .list ≡ entriesFrom os vs 0 n → Uniform os n → (v : ℕ) → plainOctet f v ≡ getD os 0 0
 unfolding plainOctet
-uniform-octet f valid os vs n list u v h =
-    let a : plainStart f v ≤ v = plain-le f valid v h in
-    let b : v < startNo f (suc (cycleNo f v)) = next-start f valid v (suc (cycleNo f v)) h (omega arith) in
-    let c = next-is f valid v in
-    ap (λ l. octetAt l (v - plainStart f v)) list ∙ u (v - plainStart f v) (omega arith)
+uniform-octet f os vs n some list u v =
+    let o : ℕ = v - plainStart f v in
+    ap (λ l. octetAt l o) list ∙ number-octet os vs n o some ∙ u (entryNo (entriesFrom os vs 0 n) o) (number-holds os vs n o some .one)
 
-pub walks-uniform : (os vs : List ℕ) (s : Stretch) (w : Walk) (at cs : List ℕ) (r : Walk) (at′ cs′ : List ℕ) → Uniform os vs (s .len) (s .period)
+-- so passing it is the walk of the stretch
+pub walks-uniform : (os vs : List ℕ) (s : Stretch) (w : Walk) (at cs : List ℕ) (r : Walk) (at′ cs′ : List ℕ) → 1 ≤ s .len → Uniform os (s .len)
     → Passes (getD os 0 0) (s .from) (s .edge) w at cs r at′ cs′ → WalksList os vs s w at cs r at′ cs′
-walks-uniform os vs s w at cs r at′ cs′ u p j f y x d =
-    p j d (y .goal)
-    (λ v a b. let h = x .started in
-    y .shows v a b ∙ uniform-octet f (y .valid) os vs (s .len) (y .list) (subst⁻¹ (Uniform os vs (s .len)) (y .cycle) u) v (omega arith))
+walks-uniform os vs s w at cs r at′ cs′ some u p j f y x d = p j d (y .goal) (λ v a b. y .shows v a b ∙ uniform-octet f os vs (s .len) some (y .list) u v)

@@ -27,7 +27,7 @@ into-more vs buf x h =
     ∙ set-append-seam vs (getD buf (length vs) 0) (drop (suc (length vs)) buf) x
     ∙ sym (append-assoc vs (x ∷ []) (drop (length (vs ++ x ∷ [])) buf) ∙ ap (λ m. vs ++ x ∷ drop m buf) n)
 
-length-into : (vs buf : List ℕ) → length vs ≤ length buf → length (into vs buf) ≡ length buf
+pub length-into : (vs buf : List ℕ) → length vs ≤ length buf → length (into vs buf) ≡ length buf
 unfolding into
 length-into vs buf h = length-append vs (drop (length vs) buf) ∙ omega (arith, length-drop (length vs) buf)
 

@@ -9,6 +9,7 @@ pub mod Step
 pub mod Walk
 pub mod Cursor
 pub mod Stretch
+pub mod Round
 pub mod Ahead
 pub mod Choosing
 pub mod Transmit

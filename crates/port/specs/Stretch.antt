@@ -4,7 +4,6 @@ use mathlib.Core.Path.{_≡_}
 use mathlib.Core.List.{List}
 use Prim.Native.Nat.{ℕ, _+_, _-_, _≤_, _<_}
 use lib.ListN.{getD}
-use Rattle.rule.specs.Entries.{octetAt}
 use Rattle.rule.specs.Cycle.{Config, Valid, plainStart, plainOctet}
 use Rattle.gatelist.specs.Coding.{entriesFrom}
 use Rattle.port.specs.declared.walk.Walk.{Walk}
@@ -42,9 +41,9 @@ abbrev pub WalksList : List ℕ → List ℕ → Stretch → Walk → List ℕ �
 WalksList os vs s w at cs r at′ cs′ = (j : Journey) (f : Config) → Cycling j f os vs (s .len) (s .period) (s .from) (s .edge) → Runs f s
     → Walked j (s .from - 1) (w .octet) (w .written) at cs → Went j (s .edge - 1) r at′ cs′
 
--- the list shows one octet, its first, all through a cycle
-abbrev pub Uniform : List ℕ → List ℕ → ℕ → ℕ → Type 0
-Uniform os vs n period = (o : ℕ) → o < period → octetAt (entriesFrom os vs 0 n) o ≡ getD os 0 0
+-- the first n octets are one
+abbrev pub Uniform : List ℕ → ℕ → Type 0
+Uniform os n = (k : ℕ) → k < n → getD os k 0 ≡ getD os 0 0
 
 -- a cursor on its way to the edge
 pub record Safe (n period edge : ℕ) (c : Cursor) : Type 0 where

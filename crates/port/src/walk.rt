@@ -1,7 +1,7 @@
 // The walk of a step.
 ghost use mathlib.Core.Path.{_≡_};
 ghost use mathlib.Core.Bool.{true};
-ghost use Prim.Native.Nat.{_<_, _≤_, _-_, _+_, min};
+ghost use Prim.Native.Nat.{_<_, _≤_, _-_, _+_, _*_, min};
 ghost use lib.ListN.{length, getD};
 ghost use Rattle.rule.specs.Limits.{largestInstant};
 ghost use Rattle.rule.specs.Port.{shown};
@@ -10,6 +10,7 @@ ghost use Rattle.port.specs.Regime.{portOf};
 ghost use Rattle.port.specs.Walk.{Passes, Walks, journeyOf, Ahead, WalksSpan};
 ghost use Rattle.port.specs.Cursor.{Enters, Placed, Onward, Advances};
 ghost use Rattle.port.specs.Stretch.{Spanned, WalksList, Uniform};
+ghost use Rattle.port.specs.Round.{Free, Repeatable, Repeats, later, same, Repeated, WalksRounds, BaseAt};
 use crate::numbers::least;
 use crate::numbers::wide;
 use crate::regime::Span;
@@ -194,28 +195,182 @@ fn walk_list<'a>(
     }
 }
 
-// Whether a list shows one octet all through a cycle of a period. If so, its cycles need no walk.
-fn uniform<'a>(octets: &'a [u8; 128], intervals: &'a [u32; 128], len: usize, period: u64) -> bool
+// Whether the used octets of a list are all alike. If so, its cycles need no walk.
+fn uniform(octets: &[u8; 128], len: usize) -> bool
     requires { ⌜ (1 ≤ len) × (len ≤ 128) ⌝ }
-    ensures { λ r. ⌜ (r ≡ true → Uniform (now (octets .entry)) (now (intervals .entry)) len period) ⌝ }
+    ensures { λ r. ⌜ (r ≡ true → Uniform (now (octets .entry)) len) ⌝ }
 {
     let first = octets[0];
-    let mut sum: u64 = 0;
-    let mut i: usize = 0;
-    while i + 1 < len {
-        sum += wide(intervals[i]);
-        if period <= sum {
-            return true;
-        }
-        i += 1;
-        if octets[i] != first {
-            return false;
-        }
+    let mut same = true;
+    for i in 0..len {
+        same = same & (octets[i] == first);
     }
-    true
+    same
 }
 
-// Walks a stretch in which a list rules; one octet all through its cycles is passed at once, however many they are.
+// The places that are free in two buffers of lengths a and b after the first n; none, if n places do not hold count.
+fn free_after(count: usize, n: usize, a: usize, b: usize) -> usize
+    ensures { λ r. ⌜ Free count n a b r ⌝ }
+{
+    if n < count {
+        return 0;
+    }
+    if a <= n {
+        return 0;
+    }
+    if b <= n {
+        return 0;
+    }
+    if a < b {
+        return a - n;
+    }
+    b - n
+}
+
+// As many periods as a length of time has and free places have room for, with count places each.
+fn rounds(time: u64, period: u64, count: usize, free: usize) -> u64
+    requires { ⌜ 1 ≤ period ⌝ }
+    ensures { λ r. ⌜ (r * period ≤ time) × (r * count ≤ free) ⌝ }
+{
+    let k = time / period;
+    if count == 0 {
+        return k;
+    }
+    least(k, (free / count) as u64)
+}
+
+// Writes the places from n to before end, each from the one that is count places before it: the instant one period later, the octet as it is.
+fn repeat(count: usize, period: u64, n: usize, end: usize, instants: &mut [u64], octets: &mut [u8])
+    requires { ⌜ Repeatable count n end (length (now instants)) (length (now octets)) ⌝ }
+    ensures { λ r. ⌜ Repeats (later period) count n end (now (instants .entry)) (now (instants .exit)) × Repeats same count n end (now (octets .entry)) (now (octets .exit)) ⌝ }
+{
+    for i in n..end {
+        let from = i - count;
+        instants[i] = std::num::wrapping_add_u64(instants[from], period);
+        octets[i] = octets[from];
+    }
+}
+
+// Goes on from t by whole periods, as many as end by last and have room: each repeats the last count changes.
+fn repeated(
+    t: u64,
+    last: u64,
+    period: u64,
+    count: usize,
+    w: Walk,
+    instants: &mut [u64],
+    octets: &mut [u8],
+) -> Walk
+    requires { ⌜ (t ≤ last) × ((last ≤ 9000000001000000000) × (1 ≤ period)) ⌝ }
+    ensures { λ r. ⌜ Repeated t last period count w (now (instants .entry)) (now (octets .entry)) r (now (instants .exit)) (now (octets .exit)) ⌝ }
+{
+    let n = w.written;
+    let octet = w.octet;
+    let free = free_after(count, n, instants.len(), octets.len());
+    let k = rounds(last - t, period, count, free);
+    let end = n + (k as usize) * count;
+    repeat(count, period, n, end, instants, octets);
+    Walk {
+        at: t + k * period,
+        octet,
+        written: end,
+        full: false,
+    }
+}
+
+// Walks a stretch before which a round of count changes is written, that of one period: repeats it as often as it can, and walks what is left.
+fn walk_rounds<'a>(
+    octets: &'a [u8; 128],
+    intervals: &'a [u32; 128],
+    s: Stretch,
+    count: usize,
+    before: Walk,
+    instants: &mut [u64],
+    changed: &mut [u8],
+) -> Walk
+    requires { ⌜ Spanned (now intervals) s ⌝ }
+    ensures { λ r. ⌜ WalksRounds (now (octets .entry)) (now (intervals .entry)) s count before (now (instants .entry)) (now (changed .entry)) r (now (instants .exit)) (now (changed .exit)) ⌝ }
+{
+    let period = s.period;
+    let base = s.base;
+    let from = s.from;
+    let edge = s.edge;
+    let w = repeated(from - 1, edge - 1, period, count, before, instants, changed);
+    let next = w.at + 1;
+    if edge <= next {
+        return w;
+    }
+    let rest = Stretch {
+        base: base + (next - from),
+        from: next,
+        ..s
+    };
+    walk_list(octets, intervals, rest, w, instants, changed)
+}
+
+// The start of the cycle that runs at t, where that is the cycle from base or the one after it.
+fn base_at(base: u64, period: u64, t: u64) -> u64
+    requires { ⌜ base + period < 18446744073709551616 ⌝ }
+    ensures { λ r. ⌜ BaseAt base period t r ⌝ }
+{
+    if t < base + period {
+        return base;
+    }
+    base + period
+}
+
+// How many more a are than b, or 0.
+fn added(a: usize, b: usize) -> usize
+    ensures { λ r. ⌜ r ≡ a - b ⌝ }
+{
+    if b <= a { a - b } else { 0 }
+}
+
+// Walks a stretch longer than a round: its first instant, the round of one period after that, and then by rounds.
+fn walk_round<'a>(
+    octets: &'a [u8; 128],
+    intervals: &'a [u32; 128],
+    s: Stretch,
+    before: Walk,
+    instants: &mut [u64],
+    changed: &mut [u8],
+) -> Walk
+    requires { ⌜ Spanned (now intervals) s ⌝ }
+    requires { ⌜ s .from + 1 + s .period < s .edge ⌝ }
+    ensures { λ r. ⌜ WalksList (now (octets .entry)) (now (intervals .entry)) s before (now (instants .entry)) (now (changed .entry)) r (now (instants .exit)) (now (changed .exit)) ⌝ }
+{
+    let period = s.period;
+    let base = s.base;
+    let from = s.from;
+    let second = from + 1;
+    let one = Stretch { edge: second, ..s };
+    let a = walk_list(octets, intervals, one, before, instants, changed);
+    if a.full {
+        return a;
+    }
+    let begun = base_at(base, period, second);
+    let next = second + period;
+    let round = Stretch {
+        base: begun,
+        from: second,
+        edge: next,
+        ..s
+    };
+    let b = walk_list(octets, intervals, round, a, instants, changed);
+    if b.full {
+        return b;
+    }
+    let count = added(b.written, a.written);
+    let rest = Stretch {
+        base: begun + period,
+        from: next,
+        ..s
+    };
+    walk_rounds(octets, intervals, rest, count, b, instants, changed)
+}
+
+// Walks a stretch in which a list rules. One octet all through its cycles is passed at once, however many they are; of many cycles, the changes of one
+// are repeated.
 fn walk_ruled<'a>(
     octets: &'a [u8; 128],
     intervals: &'a [u32; 128],
@@ -227,10 +382,13 @@ fn walk_ruled<'a>(
     requires { ⌜ Spanned (now intervals) s ⌝ }
     ensures { λ r. ⌜ WalksList (now (octets .entry)) (now (intervals .entry)) s before (now (instants .entry)) (now (changed .entry)) r (now (instants .exit)) (now (changed .exit)) ⌝ }
 {
-    if uniform(octets, intervals, s.len, s.period) {
+    if uniform(octets, s.len) {
         return pass(octets[0], s.from, s.edge, before, instants, changed);
     }
-    walk_list(octets, intervals, s, before, instants, changed)
+    if s.edge - s.from <= 2 * s.period {
+        return walk_list(octets, intervals, s, before, instants, changed);
+    }
+    walk_round(octets, intervals, s, before, instants, changed)
 }
 
 // Walks a span of a port from t on: the standing octet, or one of the port's two lists.

@@ -1,0 +1,47 @@
+/* lent CASE N: a transmit case of peer/README.md, N times, on a record that C lends to kurfandaz_transmit, as a driver does. It lays out the record by
+ * hand, sets the frame to zeros after each call, and prints what peer/bench prints. Freestanding headers only; what it takes of the C library is declared
+ * here. */
+#include "port.h"
+
+int printf(const char *format, ...);
+int strcmp(const char *a, const char *b);
+unsigned long strtoul(const char *text, char **end, int base);
+
+static struct kurfandaz_port port;
+
+/* The octet of entry i: the counting list, or the closing one with the gates of `kept` always open. */
+static uint8_t counting(unsigned i) { return (uint8_t)(0x80 | i); }
+
+static uint8_t closing(unsigned i, uint8_t kept) { return (uint8_t)(i < 120 ? 0xFF : ((0xFFu << (i - 119)) & 0xFF) | kept); }
+
+int main(int argc, char **argv) {
+    if (argc != 3)
+        return 2;
+    const char *name = argv[1];
+    const unsigned long times = strtoul(argv[2], 0, 10);
+    const bool first = strcmp(name, "transmit-first") == 0, slow = strcmp(name, "transmit-10") == 0;
+    if (!first && !slow && strcmp(name, "transmit-none") != 0)
+        return 2;
+    uint64_t heads[KURFANDAZ_CLASSES], sum = 0;
+    port.clock = 5000;
+    port.on = port.operates = true;
+    port.standing = 0xFF;
+    port.operating.list.len = KURFANDAZ_PLACES;
+    port.operating.cycle = 16000;
+    port.operating.start = 5000;
+    for (unsigned i = 0; i < KURFANDAZ_PLACES; i++) {
+        port.operating.list.octets[i] = first ? counting(i) : closing(i, slow ? 0x80 : 0);
+        port.operating.list.intervals[i] = 125;
+    }
+    for (unsigned k = 0; k < KURFANDAZ_CLASSES; k++)
+        heads[k] = first ? 1500 : 2000;
+    for (unsigned long i = 0; i < times; i++) {
+        struct kurfandaz_answer a = kurfandaz_transmit(&port, heads, slow ? 10 : 1000);
+        if (a.number != 0)
+            return 1;
+        sum += port.frame.class_ + port.frame.end;
+        port.frame = (struct kurfandaz_frame){0};
+    }
+    printf("%s %lu checksum %lu\n", name, times, (unsigned long)sum);
+    return 0;
+}

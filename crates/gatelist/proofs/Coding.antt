@@ -169,15 +169,3 @@ cleaned-same l p h z = λ j. record {
   intervals = padded-same (l .intervals) (l .len) (p .intervals) h (λ k a b. z k a b .0) j;
   len = l .len;
 }
-
--- the lengths of a record that is made so
-pub encoded-places : (l : List Entry) → length l ≤ 128 → Places (encodeList l)
-unfolding encodeList
-encoded-places l h = record {
-  octets = length-padded (map (λ (e : Entry). e .octet) l) (omega (arith, length-map l (λ (e : Entry). e .octet)));
-  intervals = length-padded (map (λ (e : Entry). e .interval) l) (omega (arith, length-map l (λ (e : Entry). e .interval)));
-}
-
-pub empty-places : Places emptyList
-unfolding emptyList
-empty-places = record { octets = refl; intervals = refl }

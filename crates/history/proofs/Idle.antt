@@ -15,14 +15,13 @@ use Rattle.rule.specs.Acts as rule
 use Rattle.rule.specs.Machine.{onward, ticks, reach}
 use Rattle.rule.specs.PortMachine.{machine}
 use Rattle.rule.proofs.Reach.{alike}
-use Rattle.gatelist.specs.Coding.{Places}
 use Rattle.port.specs.declared.Port.{Port}
 use Rattle.port.specs.Record.{wellFormed}
 use Rattle.port.specs.Coding.{decode, encode}
 use Rattle.port.specs.Step.{into, instantsOf, octetsOf}
 use Rattle.port.specs.Acts.{declines, after}
 use Rattle.port.specs.Step.{stepDeclines, passes, reported, afterStep}
-use Rattle.port.proofs.Coding.{fine, decode-encode}
+use Rattle.port.proofs.Coding.{decode-encode}
 use Rattle.history.specs.Calls.{Call, act, transmit, step, look, meant, room, leaves, reports, asked, performed, run}
 use Rattle.history.specs.Outcomes.{Handed, Allowed, Event, outcome}
 use Rattle.history.specs.Demand.{Idle, Unwritten}
@@ -44,9 +43,6 @@ step-formed p goal e = formed-first (wellFormed p) _ e
 -- a record whose arrays have 128 places, as their type says, is the encoding of what it decodes to, if it is well formed
 abbrev pub Whole : Port → Type 0
 Whole p = wellFormed p ≡ true → encode (decode p) ≡ p
-
-pub whole-places : (p : Port) → Places (p .operating .list) → Places (p .waiting .config .list) → Whole p
-whole-places p u v e = fine p u v e .whole
 
 pub whole-encode : (m : model.Port) → Whole (encode m)
 whole-encode m e = ap encode (decode-encode m)

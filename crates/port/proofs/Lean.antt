@@ -4,10 +4,10 @@ use mathlib.Core.Path.{_≡_, refl, ap, subst, subst⁻¹, _∙_}
 use mathlib.Core.Bool.{Bool}
 use Rattle.rule.specs.Port as model
 use Rattle.port.specs.declared.Port.{Port}
-use Rattle.port.specs.declared.regime.Times.{Times}
+use Rattle.port.specs.declared.regime.Outline.{Outline}
 use Rattle.port.specs.Record.{wellFormed, clockInRange, idleWhileOff, operatingFormed, waitsInTime, waitingFormed}
 use Rattle.port.specs.Coding.{decode, encode, Fine, Checked}
-use Rattle.port.specs.Regime.{timesOf, timed, lean}
+use Rattle.port.specs.Regime.{outlineOf, outlined, lean}
 
 module _ (p : Port) where
   lean-formed : wellFormed (lean p) ≡ wellFormed p
@@ -67,15 +67,15 @@ module _ (p : Port) where
   }
 
   -- the same for times that are the port's
-  module _ (x : Times) (e : x ≡ timesOf p) where
-    pub checked-timed : (b : Bool) → Checked (timed x p) b → Checked p b
-    checked-timed b k = let q = subst (λ (y : Times). Checked (timed y p) b) e k in record { is = q .is ∙ lean-formed; fine = λ z. lean-fine (q .fine z) }
+  module _ (x : Outline) (e : x ≡ outlineOf p) where
+    pub checked-outlined : (b : Bool) → Checked (outlined x p) b → Checked p b
+    checked-outlined b k = let q = subst (λ (y : Outline). Checked (outlined y p) b) e k in record { is = q .is ∙ lean-formed; fine = λ z. lean-fine (q .fine z) }
 
-    pub fine-timed : Fine p → Fine (timed x p)
-    fine-timed k = subst⁻¹ (λ (y : Times). Fine (timed y p)) e (fine-lean k)
+    pub fine-outlined : Fine p → Fine (outlined x p)
+    fine-outlined k = subst⁻¹ (λ (y : Outline). Fine (outlined y p)) e (fine-lean k)
 
-    pub timed-fine : Fine (timed x p) → Fine p
-    timed-fine k = lean-fine (subst (λ (y : Times). Fine (timed y p)) e k)
+    pub outlined-fine : Fine (outlined x p) → Fine p
+    outlined-fine k = lean-fine (subst (λ (y : Outline). Fine (outlined y p)) e k)
 
-    pub shown-timed : model.shown (decode (timed x p)) ≡ model.shown (decode p)
-    shown-timed = ap (λ (y : Times). model.shown (decode (timed y p))) e ∙ lean-shown
+    pub shown-outlined : model.shown (decode (outlined x p)) ≡ model.shown (decode p)
+    shown-outlined = ap (λ (y : Outline). model.shown (decode (outlined y p))) e ∙ lean-shown

@@ -20,7 +20,7 @@ use Rattle.port.specs.declared.regime.Span.{Span}
 use Rattle.port.specs.Record.{wellFormed}
 use Rattle.port.specs.Coding.{decode, Fine}
 use Rattle.port.specs.Acts.{lookDeclines, Looks}
-use Rattle.port.specs.Regime.{timesOf, Governs, listIn}
+use Rattle.port.specs.Regime.{outlineOf, Governs, listIn}
 use Rattle.port.proofs.Spans.{operating-fine, waiting-fine, port-ruled}
 
 module _ (p : Port) (t : ℕ) where
@@ -55,7 +55,7 @@ list-fine p k false e =
     (omega (arith, w .some-entry), omega (arith, w .few-entries))
 
 -- what the span's list shows at t
-pub span-octet : (p : Port) (t cap : ℕ) (r : Span) → Governs (timesOf p) t cap r → r .flat ≡ false → (b : Bool) → r .new ≡ b
+pub span-octet : (p : Port) (t cap : ℕ) (r : Span) → Governs (outlineOf p) t cap r → r .flat ≡ false → (b : Bool) → r .new ≡ b
     → octetAt (listOf (listIn p b)) (t - r .start) ≡ model.shown (decode p) t
 span-octet p t cap r g e b q =
     subst (λ d. octetAt (listOf (listIn p d)) (t - r .start) ≡ model.shown (decode p) t) q

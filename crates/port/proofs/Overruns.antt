@@ -1,5 +1,5 @@
 -- The overrun test on a record: a frame whose gate is shut (`shut-is`), its class (`class-fine`), and the record with the frame marked and counted
--- (`mark-other`, `mark-yes`).
+-- (`mark-other`, `none-sent`, `mark-yes`).
 -- Assumes nothing.
 use mathlib.Core.Path.{_≡_, refl, ap, sym, _∙_}
 use mathlib.Core.Bool.{Bool, true, false, not, _&&_}
@@ -14,6 +14,7 @@ use Rattle.rule.proofs.Jump.{marked-no, counted-no}
 use Rattle.port.specs.declared.Port.{Port}
 use Rattle.port.specs.declared.Frame.{Frame}
 use Rattle.port.specs.Coding.{present, decodeFrame, encodeFrame, decode, encode, Fine}
+use Rattle.port.specs.Answers.{doneWith}
 use Rattle.port.specs.Updates.{withFrame, raised, withMark}
 
 pub shut-is : (f : Frame) (octet : ℕ)
@@ -53,6 +54,14 @@ module _ (p : Port) (k : Fine p) where
   mark-other false e =
       sym (ap encode (mark-same false (decode p) (marked-no (decode p .frame)) (counted-no (decode p .frame) (p .overruns))) ∙ k .whole)
   mark-other true e = sym (ap encode (mark-same true (decode p) (rw e) (rw e)) ∙ k .whole)
+
+  -- with no frame being sent the overrun test changes nothing
+  pub none-sent : p .frame .present ≡ false → doneWith p ≡ doneWith (encode (model.tested (decode p)))
+  none-sent e = ap doneWith (mark-other (model.overran (model.shownNow (decode p)) (decode p .frame)) (go (model.overran (model.shownNow (decode p)) (decode p .frame))))
+    where
+      go : (b : Bool) → b && p .frame .present ≡ false
+      go true = e
+      go false = refl
 
   pub mark-yes : p .frame .present ≡ true → raised p ≡ encode (withMark true (decode p))
   unfolding encode decode

@@ -15,12 +15,12 @@ use Rattle.gatelist.specs.declared.GateList.{GateList}
 use Rattle.gatelist.specs.Coding.{entryOf, listOf}
 use Rattle.gatelist.proofs.Sound.{zero-free}
 use Rattle.port.specs.declared.Port.{Port}
-use Rattle.port.specs.declared.regime.Times.{Times}
+use Rattle.port.specs.declared.regime.Outline.{Outline}
 use Rattle.port.specs.declared.regime.Span.{Span}
 use Rattle.port.specs.declared.walk.Walk.{Walk}
 use Rattle.port.specs.declared.walk.Stretch.{Stretch}
 use Rattle.port.specs.Coding.{decode, Fine}
-use Rattle.port.specs.Regime.{timesOf, Governs, listIn}
+use Rattle.port.specs.Regime.{outlineOf, Governs, listIn}
 use Rattle.port.specs.Walk.{Passes, journeyOf, Ahead, WalksSpan}
 use Rattle.port.specs.Cursor.{Used}
 use Rattle.port.specs.Stretch.{Spanned, WalksList}
@@ -42,7 +42,7 @@ list-used p k b e j h =
     free false e = operating-fine p k e .0 .intervals
 
 -- what rules at t, no later than a goal's next instant
-pub span-ahead : (t cap : ℕ) (x : Times) (r : Span) → 1 ≤ t → cap ≤ largestInstant + 1 → Governs x t cap r → Ahead x t r
+pub span-ahead : (t cap : ℕ) (x : Outline) (r : Span) → 1 ≤ t → cap ≤ largestInstant + 1 → Governs x t cap r → Ahead x t r
 span-ahead t cap x r a b g =
     let u = g .upto in
     record {
@@ -51,7 +51,7 @@ span-ahead t cap x r a b g =
       governs = record { after = g .after; upto = omega arith; flat = g .flat; ruled = g .ruled; short = g .short; there = g .there };
     }
 
-module _ (p : Port) (t : ℕ) (r : Span) (h : Ahead (timesOf p) t r) where
+module _ (p : Port) (t : ℕ) (r : Span) (h : Ahead (outlineOf p) t r) where
   pub span-flat : r .flat ≡ true → (w : Walk) (at os : List ℕ) (r′ : Walk) (at′ os′ : List ℕ) → Passes (p .standing) t (r .edge) w at os r′ at′ os′
       → WalksSpan p r t w at os r′ at′ os′
   span-flat e w at os r′ at′ os′ k goal at₀ os₀ u d =

@@ -16,10 +16,10 @@ use Rattle.rule.proofs.ClosedForms.{plain-start}
 use Rattle.rule.proofs.Regime.{Rules, rules-as, rules-plain, rules-last, rules-early, shows-off, shows-standing, shows-oper, shows-installed, shows-before, shows-bent}
 use Rattle.gatelist.specs.Coding.{listOf}
 use Rattle.port.specs.declared.Port.{Port}
-use Rattle.port.specs.declared.regime.Times.{Times}
+use Rattle.port.specs.declared.regime.Outline.{Outline}
 use Rattle.port.specs.declared.regime.Span.{Span}
 use Rattle.port.specs.Coding.{present, decodeConfig, decodeWaiting, decode, Fine}
-use Rattle.port.specs.Regime.{timesOf, configBy, waitingBy, portBy, Cycling, InTime, Governs, listIn}
+use Rattle.port.specs.Regime.{outlineOf, configBy, waitingBy, portBy, Cycling, InTime, Governs, listIn}
 
 -- a plain cycle that has begun
 
@@ -32,7 +32,7 @@ plain-span : (f : Config) (t s e : ℕ) → Cycling (f .start) (f .cycle) t → 
 plain-span f t s e k i =
     subst (λ v. Rules (plainOctet f) (f .list) (f .cycle) v t e) (sym (i ∙ plain-start f t)) (rules-plain f (valid f t k) t e (k .begun))
 
-module _ (x : Times) (t cap : ℕ) where
+module _ (x : Outline) (t cap : ℕ) where
   -- the standing octet
   flat : (e : ℕ) → t < e → e ≤ cap
       → ((octet : ℕ) (old new : List Entry) (v : ℕ) → t ≤ v → v < e → model.shown (portBy x octet old new) v ≡ octet)
@@ -115,14 +115,14 @@ module _ (x : Times) (t cap : ℕ) where
 
 module _ (p : Port) where
   -- what it shows depends on its times, its standing octet and its lists
-  pub shown-by : (v : ℕ) → model.shown (decode p) v ≡ model.shown (portBy (timesOf p) (p .standing) (listOf (p .operating .list)) (listOf (p .waiting .config .list))) v
+  pub shown-by : (v : ℕ) → model.shown (decode p) v ≡ model.shown (portBy (outlineOf p) (p .standing) (listOf (p .operating .list)) (listOf (p .waiting .config .list))) v
   unfolding decode model.shown
   shown-by v = ap (λ o. cond (p .on) o (p .standing)) (go (p .operates) (p .waits))
     where
       go : (a b : Bool)
           → model.octetUnder (p .standing) (present a (decodeConfig (p .operating))) (present b (decodeWaiting (p .waiting))) v
-          ≡ model.octetUnder (p .standing) (present a (configBy (timesOf p) (listOf (p .operating .list))))
-          (present b (waitingBy (timesOf p) (listOf (p .waiting .config .list)))) v
+          ≡ model.octetUnder (p .standing) (present a (configBy (outlineOf p) (listOf (p .operating .list))))
+          (present b (waitingBy (outlineOf p) (listOf (p .waiting .config .list)))) v
       go true true = unfold model.octetUnder plainOctet plainStart startNo cycleNo in refl
       go true false = refl
       go false true = unfold model.octetUnder plainOctet plainStart startNo cycleNo in refl
@@ -149,7 +149,7 @@ module _ (p : Port) where
         subst (λ b. SoundOperating (p .waiting .since) (present b (decodeConfig (p .operating)))) o (waiting-fine e .old) in
         y .1
 
-    pub in-time : (t cap : ℕ) → p .clock ≤ t → t < cap → t ≤ largestInstant + largestCycle → InTime (timesOf p) t cap
+    pub in-time : (t cap : ℕ) → p .clock ≤ t → t < cap → t ≤ largestInstant + largestCycle → InTime (outlineOf p) t cap
     in-time t cap h l n = record {
       capped = l;
       near = n;
@@ -163,7 +163,7 @@ module _ (p : Port) where
       };
     }
 
-  module _ (t cap : ℕ) (r : Span) (g : Governs (timesOf p) t cap r) where
+  module _ (t cap : ℕ) (r : Span) (g : Governs (outlineOf p) t cap r) where
     pub port-flat : r .flat ≡ true → (v : ℕ) → t ≤ v → v < r .edge → model.shown (decode p) v ≡ p .standing
     port-flat e v a b = shown-by v ∙ g .flat e (p .standing) _ _ v a b
 
@@ -172,9 +172,9 @@ module _ (p : Port) where
         rules-as _ (model.shown (decode p)) (listOf (listIn p (r .new))) (r .period) (r .start) t (r .edge) (λ v a b. shown-by v)
         (go (r .new) (g .ruled e (p .standing) (listOf (p .operating .list)) (listOf (p .waiting .config .list))))
       where
-        go : (b : Bool) → Rules (model.shown (portBy (timesOf p) (p .standing) (listOf (p .operating .list)) (listOf (p .waiting .config .list))))
+        go : (b : Bool) → Rules (model.shown (portBy (outlineOf p) (p .standing) (listOf (p .operating .list)) (listOf (p .waiting .config .list))))
             (cond b (listOf (p .waiting .config .list)) (listOf (p .operating .list))) (r .period) (r .start) t (r .edge)
-            → Rules (model.shown (portBy (timesOf p) (p .standing) (listOf (p .operating .list)) (listOf (p .waiting .config .list))))
+            → Rules (model.shown (portBy (outlineOf p) (p .standing) (listOf (p .operating .list)) (listOf (p .waiting .config .list))))
             (listOf (listIn p b)) (r .period) (r .start) t (r .edge)
         go true x = x
         go false x = x

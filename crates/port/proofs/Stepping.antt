@@ -20,10 +20,10 @@ use Rattle.rule.proofs.Changes.{log-shown}
 use Rattle.rule.proofs.Walk.{reach-shown}
 use Rattle.port.specs.declared.Port.{Port}
 use Rattle.port.specs.declared.StepAnswer.the-variants as stepped
-use Rattle.port.specs.declared.regime.Times.{Times}
+use Rattle.port.specs.declared.regime.Outline.{Outline}
 use Rattle.port.specs.declared.step.Course.{Course}
 use Rattle.port.specs.declared.step.Course.the-variants as course
-use Rattle.port.specs.Regime.{timesOf, timed}
+use Rattle.port.specs.Regime.{outlineOf, outlined}
 use Rattle.port.specs.Record.{wellFormed, clockInRange, idleWhileOff, operatingFormed, waitsInTime, waitingFormed}
 use Rattle.port.specs.Coding.{decode, encode, Fine}
 use Rattle.port.specs.Updates.{withMark}
@@ -31,7 +31,7 @@ use Rattle.port.specs.Walk.{Walks, journeyOf, Written, GoesBy, Goes, Cou
 use Rattle.port.specs.Step.{into, instantsOf, octetsOf}
 use Rattle.port.specs.Step.{stepDeclines, passes, reported, afterStep, StepsBy, Steps}
 use Rattle.port.proofs.Moving.{due-ticks}
-use Rattle.port.proofs.Lean.{timed-fine}
+use Rattle.port.proofs.Lean.{outlined-fine}
 
 -- refused
 
@@ -126,27 +126,27 @@ module _ (p : Port) (goal : ℕ) (at at′ os os′ : List ℕ) where
   goes-on f e h k l (course.Goes n u b) g = (declines-not p goal e h k l, (f, g))
 
 -- a step by its course, which looks at the port's times and lists alone
-module _ (p : Port) (goal : ℕ) (at at′ os os′ : List ℕ) (x : Times) (i : x ≡ timesOf p) where
-  timed-declines : stepDeclines goal (timed x p) ≡ stepDeclines goal p
+module _ (p : Port) (goal : ℕ) (at at′ os os′ : List ℕ) (x : Outline) (i : x ≡ outlineOf p) where
+  outlined-declines : stepDeclines goal (outlined x p) ≡ stepDeclines goal p
   unfolding stepDeclines decode stepOrder wellFormed clockInRange idleWhileOff operatingFormed waitingFormed waitsInTime
-  timed-declines = ap (λ (y : Times). stepDeclines goal (timed y p)) i
+  outlined-declines = ap (λ (y : Outline). stepDeclines goal (outlined y p)) i
 
-  module _ (w : Course) (k : Courses (timed x p) goal at at′ os os′ w) where
+  module _ (w : Course) (k : Courses (outlined x p) goal at at′ os os′ w) where
     pub step-stays : (r : Refusal) → w ≡ course.Stays r → Steps p goal at at′ os os′ (record { answer = stepped.Refused r; port = p })
     step-stays r h =
-        let c = subst (Courses (timed x p) goal at at′ os os′) h k in
-        stays p goal at at′ os os′ r (sym timed-declines ∙ c .0) (c .1 .0) (c .1 .1)
+        let c = subst (Courses (outlined x p) goal at at′ os os′) h k in
+        stays p goal at at′ os os′ r (sym outlined-declines ∙ c .0) (c .1 .0) (c .1 .1)
 
     module _ (n e : ℕ) (b : Bool) (h : w ≡ course.Goes n e b) where
-      told-goes : Courses (timed x p) goal at at′ os os′ (course.Goes n e b)
-      told-goes = subst (Courses (timed x p) goal at at′ os os′) h k
+      told-goes : Courses (outlined x p) goal at at′ os os′ (course.Goes n e b)
+      told-goes = subst (Courses (outlined x p) goal at at′ os os′) h k
 
       pub course-fine : Fine p
-      course-fine = timed-fine p x i (told-goes .1 .0)
+      course-fine = outlined-fine p x i (told-goes .1 .0)
 
-      goes-timed : GoesBy p goal at at′ os os′ n e b
+      goes-outlined : GoesBy p goal at at′ os os′ n e b
       unfolding decode model.shown
-      goes-timed = let g = subst (λ (y : Times). GoesBy (timed y p) goal at at′ os os′ n e b) i (told-goes .1 .1) in record { walks = g .walks; met = g .met }
+      goes-outlined = let g = subst (λ (y : Outline). GoesBy (outlined y p) goal at at′ os os′ n e b) i (told-goes .1 .1) in record { walks = g .walks; met = g .met }
 
       pub step-goes : (q : Port) → q ≡ encode (model.due e (withMark b (decode p))) → Steps p goal at at′ os os′ (record { answer = stepped.Written n; port = q })
-      step-goes q f = goes p goal at at′ os os′ course-fine n e b (sym timed-declines ∙ told-goes .0) goes-timed q f
+      step-goes q f = goes p goal at at′ os os′ course-fine n e b (sym outlined-declines ∙ told-goes .0) goes-outlined q f

@@ -26,7 +26,7 @@ use Rattle.port.specs.declared.Port.{Port}
 use Rattle.port.specs.declared.Answer.{Answer}
 use Rattle.port.specs.declared.Answer.the-variants.{Done, Refused}
 use Rattle.port.specs.declared.Choice.{Choice}
-use Rattle.port.specs.declared.regime.Times.{Times}
+use Rattle.port.specs.declared.regime.Outline.{Outline}
 use Rattle.port.specs.declared.transmit.Decided.{Decided}
 use Rattle.port.specs.declared.Choice.the-variants as choice
 use Rattle.port.specs.Record.{wellFormed, clockInRange, idleWhileOff, operatingFormed, waitsInTime, waitingFormed}
@@ -34,11 +34,11 @@ use Rattle.port.specs.Coding.{present, decodeFrame, encodeFrame, decode,
 use Rattle.port.specs.Answers.{answerOf, choiceOf}
 use Rattle.port.specs.Acts.{declines, after}
 use Rattle.port.specs.Updates.{withFrame, withMark}
-use Rattle.port.specs.Choosing.{Offered}
-use Rattle.port.specs.Transmit.{Stores, Decides, transmitRefusal}
-use Rattle.port.specs.Regime.{timesOf, timed}
+use Rattle.port.specs.Choosing.{Offered, Decides}
+use Rattle.port.specs.Transmit.{Stores, transmitRefusal}
+use Rattle.port.specs.Regime.{outlineOf, outlined}
 use Rattle.port.proofs.Coding.{mark-there}
-use Rattle.port.proofs.Lean.{timed-fine}
+use Rattle.port.proofs.Lean.{outlined-fine}
 use Rattle.port.proofs.Submitting.{act-refused}
 
 -- the tests
@@ -213,26 +213,26 @@ module _ (heads : List ℕ) (speed : ℕ) (p : Port) (answer : Answer) (is : ans
       record { refused = λ w z. absurd (some-none w (sym z ∙ d)); fine = λ _. k; frame = λ _. i; answer = λ _. j }
 
 -- the decision looks at the port's times and lists alone, and its frame is stored
-module _ (heads : List ℕ) (speed : ℕ) (p : Port) (x : Times) (i : x ≡ timesOf p) (r : Decided) (k : Decides heads speed (timed x p) r) where
-  timed-declines : declines (transmit heads speed) (timed x p) ≡ declines (transmit heads speed) p
+module _ (heads : List ℕ) (speed : ℕ) (p : Port) (x : Outline) (i : x ≡ outlineOf p) (r : Decided) (k : Decides heads speed (outlined x p) r) where
+  outlined-declines : declines (transmit heads speed) (outlined x p) ≡ declines (transmit heads speed) p
   unfolding declines decode transmitOrder wellFormed clockInRange idleWhileOff operatingFormed waitingFormed waitsInTime
-  timed-declines = ap (λ (y : Times). declines (transmit heads speed) (timed y p)) i
+  outlined-declines = ap (λ (y : Outline). declines (transmit heads speed) (outlined y p)) i
 
-  timed-begun : begun heads speed (decode (timed x p)) ≡ begun heads speed (decode p)
+  outlined-begun : begun heads speed (decode (outlined x p)) ≡ begun heads speed (decode p)
   unfolding decode lookAhead model.shownNow model.shown
-  timed-begun = ap (λ (y : Times). begun heads speed (decode (timed y p))) i
+  outlined-begun = ap (λ (y : Outline). begun heads speed (decode (outlined y p))) i
 
   pub transmit-stores : Stores heads speed p (record { answer = r .answer; port = withFrame (r .frame) (p .overruns) p })
   transmit-stores = go (declines (transmit heads speed) p) refl
     where
       go : (o : Option Refusal) → declines (transmit heads speed) p ≡ o → Stores heads speed p (record { answer = r .answer; port = withFrame (r .frame) (p .overruns) p })
       go none e =
-          let d = timed-declines ∙ e in
-          transmit-done heads speed p (answerOf (declines (transmit heads speed) p)) refl (timed-fine p x i (k .fine d)) (ap answerOf e) (r .frame)
-          (k .frame d ∙ ap encodeFrame timed-begun) (r .answer) (k .answer d)
+          let d = outlined-declines ∙ e in
+          transmit-done heads speed p (answerOf (declines (transmit heads speed) p)) refl (outlined-fine p x i (k .fine d)) (ap answerOf e) (r .frame)
+          (k .frame d ∙ ap encodeFrame outlined-begun) (r .answer) (k .answer d)
       go (some w) e =
-          let z = k .refused w (timed-declines ∙ e) in
-          let f : r .frame ≡ p .frame = z .1 ∙ ap (λ (y : Times). y .frame) i in
+          let z = k .refused w (outlined-declines ∙ e) in
+          let f : r .frame ≡ p .frame = z .1 ∙ ap (λ (y : Outline). y .frame) i in
           subst⁻¹ (λ (g : Frame). Stores heads speed p (record { answer = r .answer; port = withFrame g (p .overruns) p })) f
           (subst⁻¹ (λ (c : Choice). Stores heads speed p (record { answer = c; port = p })) (z .0)
           (transmit-refused heads speed p (answerOf (declines (transmit heads speed) p)) refl w (ap answerOf e)))

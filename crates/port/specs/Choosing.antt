@@ -12,6 +12,14 @@ use Rattle.rule.specs.Limits.{longestFrame}
 use Rattle.rule.specs.Gates.{isOpen}
 use Rattle.rule.specs.Choice.{duration}
 use Rattle.rule.specs.Orders.{speedOffered}
+use Rattle.rule.specs.declared.Refusal.{Refusal}
+use Rattle.rule.specs.Acts.{transmit, performed}
+use Rattle.port.specs.declared.Port.{Port}
+use Rattle.port.specs.declared.Choice.the-variants as choice
+use Rattle.port.specs.declared.transmit.Decided.{Decided}
+use Rattle.port.specs.Coding.{present, decodeFrame, encodeFrame, decode, Fine}
+use Rattle.port.specs.Answers.{choiceOf}
+use Rattle.port.specs.Acts.{declines}
 use Rattle.port.specs.declared.choosing.Found.{Found}
 use Rattle.port.specs.declared.choosing.Found.the-variants.{Class, Nobody}
 
@@ -45,3 +53,10 @@ pub record Offered (heads : List ℕ) (speed : ℕ) : Type 0 where
 abbrev pub foundOf : Option ℕ → Found
 foundOf none = Nobody
 foundOf (some k) = Class k
+
+-- the decision, which leaves the storing of the frame to the caller
+pub record Decides (heads : List ℕ) (speed : ℕ) (p : Port) (r : Decided) : Type 0 where
+  pub refused : (w : Refusal) → declines (transmit heads speed) p ≡ some w → (r .answer ≡ choice.Refused w) × (r .frame ≡ p .frame)
+  pub fine : declines (transmit heads speed) p ≡ none → Fine p
+  pub frame : declines (transmit heads speed) p ≡ none → r .frame ≡ encodeFrame (performed (transmit heads speed) (decode p) .frame)
+  pub answer : declines (transmit heads speed) p ≡ none → r .answer ≡ choiceOf none (present (r .frame .present) (decodeFrame (r .frame)))

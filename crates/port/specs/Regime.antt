@@ -1,5 +1,5 @@
 -- Document 01, 'What the gates show': which of the two lists rules at an instant, over which cycles, and until when that stays so. Only
--- the marks and instants of a port (`Times`) decide that, whatever the lists hold.
+-- the marks and instants of a port (`Outline`) decide that, whatever the lists hold.
 -- Assumes nothing.
 use mathlib.Core.Path.{_≡_}
 use mathlib.Core.Bool.{Bool, true, false, cond}
@@ -13,12 +13,12 @@ use Rattle.rule.specs.Port as model
 use Rattle.rule.proofs.Regime.{Rules}
 use Rattle.gatelist.specs.declared.GateList.{GateList}
 use Rattle.port.specs.declared.Port.{Port}
-use Rattle.port.specs.declared.regime.Times.{Times}
+use Rattle.port.specs.declared.regime.Outline.{Outline}
 use Rattle.port.specs.declared.regime.Span.{Span}
 use Rattle.port.specs.Coding.{present}
 
-abbrev pub timesOf : Port → Times
-timesOf p = record {
+abbrev pub outlineOf : Port → Outline
+outlineOf p = record {
   frame = p .frame;
   clock = p .clock;
   on = p .on;
@@ -37,7 +37,7 @@ timesOf p = record {
 }
 
 -- the port with these times and the places of its two lists; its counters are left open, as nothing that is asked of it looks at them
-abbrev pub portOf : Times → List ℕ → List ℕ → List ℕ → List ℕ → Port
+abbrev pub portOf : Outline → List ℕ → List ℕ → List ℕ → List ℕ → Port
 portOf x os vs ws zs = record {
   frame = x .frame;
   clock = x .clock;
@@ -55,20 +55,20 @@ portOf x os vs ws zs = record {
 }
 
 -- the same, with the places of a port's lists; a port without its counters
-abbrev pub timed : Times → Port → Port
-timed x p = portOf x (p .operating .list .octets) (p .operating .list .intervals) (p .waiting .config .list .octets) (p .waiting .config .list .intervals)
+abbrev pub outlined : Outline → Port → Port
+outlined x p = portOf x (p .operating .list .octets) (p .operating .list .intervals) (p .waiting .config .list .octets) (p .waiting .config .list .intervals)
 
 abbrev pub lean : Port → Port
-lean p = timed (timesOf p) p
+lean p = outlined (outlineOf p) p
 
 -- a port with these times, a standing octet, and the lists of what operates and of what waits
-abbrev pub configBy : Times → List Entry → cycle.Config
+abbrev pub configBy : Outline → List Entry → cycle.Config
 configBy x l = record { start = x .start; cycle = x .cycle; extension = x .extension; list = l }
 
-abbrev pub waitingBy : Times → List Entry → model.Waiting
+abbrev pub waitingBy : Outline → List Entry → model.Waiting
 waitingBy x l = record { config = record { start = x .change; cycle = x .period; extension = 0; list = l }; since = x .since }
 
-abbrev pub portBy : Times → ℕ → List Entry → List Entry → model.Port
+abbrev pub portBy : Outline → ℕ → List Entry → List Entry → model.Port
 portBy x octet old new = record {
   clock = 0;
   on = x .on;
@@ -86,7 +86,7 @@ pub record Cycling (start length t : ℕ) : Type 0 where
   pub short : length ≤ largestCycle
   pub begun : start ≤ t
 
-pub record Pending (x : Times) : Type 0 where
+pub record Pending (x : Outline) : Type 0 where
   pub some-time : 1 ≤ x .period
   pub short : x .period ≤ largestCycle
   pub near : x .change ≤ largestInstant + largestCycle
@@ -94,14 +94,14 @@ pub record Pending (x : Times) : Type 0 where
   pub old : x .operates ≡ true → x .start ≤ x .since
 
 -- times at which one may ask at t, for a span before the cap
-pub record InTime (x : Times) (t cap : ℕ) : Type 0 where
+pub record InTime (x : Outline) (t cap : ℕ) : Type 0 where
   pub capped : t < cap
   pub near : t ≤ largestInstant + largestCycle
   pub operating : x .operates ≡ true → Cycling (x .start) (x .cycle) t
   pub waiting : x .waits ≡ true → Pending x
 
 -- from t to before the edge, no later than the cap, the standing octet is shown, or one list is read over cycles
-pub record Governs (x : Times) (t cap : ℕ) (r : Span) : Type 0 where
+pub record Governs (x : Outline) (t cap : ℕ) (r : Span) : Type 0 where
   pub after : t < r .edge
   pub upto : r .edge ≤ cap
   pub flat : r .flat ≡ true → (octet : ℕ) (old new : List Entry) (v : ℕ) → t ≤ v → v < r .edge → model.shown (portBy x octet old new) v ≡ octet

@@ -4,7 +4,7 @@
 use mathlib.Core.Path.{_≡_}
 use mathlib.Core.Bool.{Bool, not}
 use mathlib.Core.List.{List, [], _∷_}
-use mathlib.Core.Option.{Option, none, some}
+use mathlib.Core.Option.{Option}
 use Prim.Native.Nat.{ℕ}
 use Rattle.rule.specs.declared.Refusal.{Refusal}
 use Rattle.rule.specs.declared.Refusal.the-variants.{MalformedPort, Speed, FrameSending, HeadLength}
@@ -12,9 +12,7 @@ use Rattle.rule.specs.Refusals.{firstOf}
 use Rattle.rule.specs.Acts.{transmit, performed}
 use Rattle.port.specs.declared.Port.{Port}
 use Rattle.port.specs.declared.Transmitted.{Transmitted}
-use Rattle.port.specs.declared.Choice.the-variants as choice
-use Rattle.port.specs.declared.transmit.Decided.{Decided}
-use Rattle.port.specs.Coding.{present, decodeFrame, encodeFrame, decode, Fine}
+use Rattle.port.specs.Coding.{decode}
 use Rattle.port.specs.Answers.{choiceOf}
 use Rattle.port.specs.Acts.{declines, after}
 use Rattle.port.specs.Updates.{withFrame}
@@ -32,10 +30,3 @@ pub record Stores (heads : List ℕ) (speed : ℕ) (p : Port) (r : Transmitted) 
 unfoldable pub transmitRefusal : Bool → Bool → Bool → Bool → Option Refusal
 transmitRefusal formed speed sending wrong =
     firstOf ((not formed, MalformedPort) ∷ (not speed, Speed) ∷ (sending, FrameSending) ∷ (wrong, HeadLength) ∷ [])
-
--- the decision, which leaves the storing of the frame to the caller: private to the crate
-pub record Decides (heads : List ℕ) (speed : ℕ) (p : Port) (r : Decided) : Type 0 where
-  pub refused : (w : Refusal) → declines (transmit heads speed) p ≡ some w → (r .answer ≡ choice.Refused w) × (r .frame ≡ p .frame)
-  pub fine : declines (transmit heads speed) p ≡ none → Fine p
-  pub frame : declines (transmit heads speed) p ≡ none → r .frame ≡ encodeFrame (performed (transmit heads speed) (decode p) .frame)
-  pub answer : declines (transmit heads speed) p ≡ none → r .answer ≡ choiceOf none (present (r .frame .present) (decodeFrame (r .frame)))

@@ -13,7 +13,7 @@ use Rattle.rule.specs.Limits.{largestInstant}
 use Rattle.rule.specs.Port.{shown}
 use Rattle.port.specs.declared.Frame.{Frame}
 use Rattle.port.specs.declared.Port.{Port}
-use Rattle.port.specs.declared.regime.Times.{Times}
+use Rattle.port.specs.declared.regime.Outline.{Outline}
 use Rattle.port.specs.declared.regime.Span.{Span}
 use Rattle.port.specs.declared.walk.Walk.{Walk}
 use Rattle.port.specs.declared.step.Course.{Course}
@@ -70,7 +70,7 @@ abbrev pub journeyOf : Port → ℕ → List ℕ → List ℕ → Journey
 journeyOf p goal at os = record { shows = shown (decode p); clock = p .clock; goal = goal; instants = at; octets = os }
 
 -- a span of what a port with these times shows from t on
-pub record Ahead (x : Times) (t : ℕ) (r : Span) : Type 0 where
+pub record Ahead (x : Outline) (t : ℕ) (r : Span) : Type 0 where
   pub first : 1 ≤ t
   pub near : r .edge ≤ largestInstant + 1
   pub governs : Governs x t (r .edge) r

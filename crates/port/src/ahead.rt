@@ -9,7 +9,7 @@ ghost use Rattle.port.specs.Regime.{portOf};
 ghost use Rattle.port.specs.Stretch.{Spanned};
 ghost use Rattle.port.specs.Ahead.{Stamps, Narrows, ClosesList, Closes};
 use crate::numbers::least;
-use crate::regime::Times;
+use crate::regime::Outline;
 use crate::regime::plain_start;
 use crate::walk::Stretch;
 use crate::walk::advance;
@@ -101,7 +101,7 @@ fn closings_in<'a>(
 
 // When the gates of the wanted classes close after the clock, as far as that is before last: what is open for a whole cycle stays so.
 pub fn closings<'a>(
-    x: Times,
+    x: Outline,
     os: &'a [u8; 128],
     vs: &'a [u32; 128],
     ws: &'a [u8; 128],

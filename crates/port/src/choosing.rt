@@ -15,7 +15,7 @@ use crate::ahead::pick;
 use crate::look::shown_at;
 use crate::numbers::most;
 use crate::record::no_frame;
-use crate::regime::Times;
+use crate::regime::Outline;
 
 // So many nanoseconds a frame of a length takes at a speed in Mbit/s.
 fn duration(len: u64, speed: u64) -> u64
@@ -92,7 +92,7 @@ fn in_time(octet: u8, heads: [u64; 8], speed: u64, t: u64, closing: [u64; 8]) ->
 
 // The classes that qualify, with an octet shown now.
 fn qualifying<'a>(
-    x: Times,
+    x: Outline,
     os: &'a [u8; 128],
     vs: &'a [u32; 128],
     ws: &'a [u8; 128],
@@ -161,7 +161,7 @@ fn frame_for(octet: u8, heads: [u64; 8], speed: u64, t: u64) -> Frame
 
 // The frame that is chosen now, or none.
 pub fn chosen<'a>(
-    x: Times,
+    x: Outline,
     os: &'a [u8; 128],
     vs: &'a [u32; 128],
     ws: &'a [u8; 128],

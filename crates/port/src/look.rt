@@ -11,9 +11,9 @@ ghost use Rattle.port.specs.Regime.{portOf};
 use crate::Looked;
 use crate::Port;
 use crate::record::formed;
-use crate::regime::Times;
+use crate::regime::Outline;
+use crate::regime::outline_of;
 use crate::regime::regime;
-use crate::regime::times_of;
 use rule::Refusal;
 
 // The octet of the entry at an offset of a cycle.
@@ -28,7 +28,7 @@ pub fn octet_in<'a>(octets: &'a [u8; 128], intervals: &'a [u32; 128], len: usize
 
 // What a port whose lists stand in lent arrays shows at t, if no further act comes.
 pub fn shown_at<'a>(
-    x: Times,
+    x: Outline,
     os: &'a [u8; 128],
     vs: &'a [u32; 128],
     ws: &'a [u8; 128],
@@ -55,7 +55,7 @@ impl Port {
     pub fn look(self, t: u64) -> Looked
         ensures { λ r. ⌜ Looks self t r ⌝ }
     {
-        let x = times_of(self);
+        let x = outline_of(self);
         let good = formed(
             x,
             &self.operating.list.octets,

@@ -11,8 +11,8 @@ use crate::Frame;
 use crate::Port;
 use crate::Waiting;
 use crate::numbers::minus;
-use crate::regime::Times;
-use crate::regime::times_of;
+use crate::regime::Outline;
+use crate::regime::outline_of;
 use gatelist::GateList;
 
 // The longest time that a frame takes: 2,000 octets at 10 Mbit/s.
@@ -37,7 +37,7 @@ fn config_formed<'a>(
     (cycle == 0) & ((extension == 0) & ((start == 0) & listed))
 }
 
-fn waits_in_time(x: Times) -> bool
+fn waits_in_time(x: Outline) -> bool
     ensures { λ r. ⌜ ((os vs ws zs : List ℕ) → r ≡ waitsInTime (portOf x os vs ws zs)) ⌝ }
 {
     (x.since <= x.clock)
@@ -57,7 +57,7 @@ fn frame_formed(f: Frame, clock: u64) -> bool
 
 // Whether none of the conditions of 14 fails, for a port whose lists stand in lent arrays.
 pub fn formed<'a>(
-    x: Times,
+    x: Outline,
     os: &'a [u8; 128],
     vs: &'a [u32; 128],
     ws: &'a [u8; 128],
@@ -88,7 +88,7 @@ pub fn formed<'a>(
 pub fn well_formed(p: Port) -> bool
     ensures { λ r. ⌜ Checked p r ⌝ }
 {
-    let x = times_of(p);
+    let x = outline_of(p);
     formed(
         x,
         &p.operating.list.octets,

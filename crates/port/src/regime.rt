@@ -7,7 +7,7 @@ ghost use Prim.Native.Nat.{_+_, _-_, _*_, _/_, _≤_, _<_};
 ghost use Rattle.rule.specs.Limits.{largestInstant, largestCycle};
 ghost use Rattle.rule.specs.Entries.{Entry};
 ghost use Rattle.rule.specs.Cycle.{startNo, lastNo};
-ghost use Rattle.port.specs.Regime.{timesOf, configBy, Cycling, Pending, InTime, Governs};
+ghost use Rattle.port.specs.Regime.{outlineOf, configBy, Cycling, Pending, InTime, Governs};
 use crate::Frame;
 use crate::Port;
 use crate::numbers::least;
@@ -16,7 +16,7 @@ use crate::numbers::most;
 
 // A port without its lists and counters: the frame, the clock, the marks and the standing octet; of what operates, the length of its list, its cycle, its
 // extension and its start; of what waits, the same, the change instant being its start, and since when it waits.
-pub struct Times {
+pub struct Outline {
     pub frame: Frame,
     pub clock: u64,
     pub on: bool,
@@ -44,11 +44,11 @@ pub struct Span {
     pub edge: u64,
 }
 
-pub fn times_of(p: Port) -> Times
-    ensures { λ r. ⌜ r ≡ timesOf p ⌝ }
+pub fn outline_of(p: Port) -> Outline
+    ensures { λ r. ⌜ r ≡ outlineOf p ⌝ }
 {
     let frame = p.frame;
-    Times {
+    Outline {
         frame,
         clock: p.clock,
         on: p.on,
@@ -77,7 +77,7 @@ pub fn plain_start(start: u64, length: u64, t: u64) -> u64
 }
 
 // The start of the last cycle of what operates: the first start later than `since` that comes, with a cycle and the extension, to the change or past it.
-fn last_start(x: Times) -> u64
+fn last_start(x: Outline) -> u64
     requires { ⌜ Pending x ⌝ }
     requires { ⌜ Cycling (x .start) (x .cycle) (x .since) ⌝ }
     ensures { λ r. ⌜ ((l : List Entry) → r ≡ startNo (configBy x l) (lastNo (configBy x l) (x .since) (x .change))) ⌝ }
@@ -92,7 +92,7 @@ fn last_start(x: Times) -> u64
 }
 
 // While a configuration waits and another operates, before the change: bent cycles.
-fn regime_bent(x: Times, t: u64, cap: u64) -> Span
+fn regime_bent(x: Outline, t: u64, cap: u64) -> Span
     requires { ⌜ InTime x t cap ⌝ }
     requires { ⌜ (x .on ≡ true) × ((x .waits ≡ true) × (x .operates ≡ true)) ⌝ }
     requires { ⌜ t < x .change ⌝ }
@@ -122,7 +122,7 @@ fn regime_bent(x: Times, t: u64, cap: u64) -> Span
 }
 
 // While a configuration waits.
-fn regime_waiting(x: Times, t: u64, cap: u64) -> Span
+fn regime_waiting(x: Outline, t: u64, cap: u64) -> Span
     requires { ⌜ InTime x t cap ⌝ }
     requires { ⌜ (x .on ≡ true) × (x .waits ≡ true) ⌝ }
     ensures { λ r. ⌜ Governs x t cap r ⌝ }
@@ -153,7 +153,7 @@ fn regime_waiting(x: Times, t: u64, cap: u64) -> Span
 }
 
 // What rules at t, and an edge past t and no later than the cap before which that stays so: the start of the last cycle, the change, or the cap.
-pub fn regime(x: Times, t: u64, cap: u64) -> Span
+pub fn regime(x: Outline, t: u64, cap: u64) -> Span
     requires { ⌜ InTime x t cap ⌝ }
     ensures { λ r. ⌜ Governs x t cap r ⌝ }
 {

@@ -20,8 +20,8 @@ use crate::overrun::marked;
 use crate::record::formed;
 use crate::record::no_frame;
 use crate::record::no_waiting;
-use crate::regime::Times;
-use crate::regime::times_of;
+use crate::regime::Outline;
+use crate::regime::outline_of;
 use crate::walk::walk_port;
 use rule::Refusal;
 
@@ -113,7 +113,7 @@ pub enum Course {
 
 // The walk to a goal that nothing refuses, on a port whose lists stand in lent arrays.
 fn going<'a>(
-    x: Times,
+    x: Outline,
     os: &'a [u8; 128],
     vs: &'a [u32; 128],
     ws: &'a [u8; 128],
@@ -138,7 +138,7 @@ fn going<'a>(
 
 // The order of Step: 14, 9, 10, 11.
 fn outcome<'a>(
-    x: Times,
+    x: Outline,
     os: &'a [u8; 128],
     vs: &'a [u32; 128],
     ws: &'a [u8; 128],
@@ -169,7 +169,7 @@ impl Port {
     pub fn step(self, goal: u64, instants: &mut [u64], octets: &mut [u8]) -> Stepped
         ensures { λ r. ⌜ Steps self goal (now (instants .entry)) (now (instants .exit)) (now (octets .entry)) (now (octets .exit)) r ⌝ }
     {
-        let x = times_of(self);
+        let x = outline_of(self);
         let c = outcome(
             x,
             &self.operating.list.octets,

@@ -199,6 +199,13 @@ impl Port {
             return Acted { answer, port: self };
         }
         let p = submitted(self, list, numerator, denominator, extension, base);
-        done(p)
+        let f = p.frame;
+        if f.present {
+            return done(p);
+        }
+        Acted {
+            answer: Answer::Done,
+            port: p,
+        }
     }
 }

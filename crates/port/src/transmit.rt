@@ -6,7 +6,8 @@ ghost use Rattle.rule.specs.Orders.{any, speedOffered, headOffered};
 ghost use Rattle.port.specs.Coding.{present, decodeFrame};
 ghost use Rattle.port.specs.Answers.{answerOf, choiceOf};
 ghost use Rattle.port.specs.Regime.{portOf};
-ghost use Rattle.port.specs.Transmit.{Stores, Decides, transmitRefusal};
+ghost use Rattle.port.specs.Choosing.{Decides};
+ghost use Rattle.port.specs.Transmit.{Stores, transmitRefusal};
 use crate::Answer;
 use crate::Choice;
 use crate::Frame;
@@ -14,8 +15,8 @@ use crate::Port;
 use crate::Transmitted;
 use crate::choosing::chosen;
 use crate::record::formed;
-use crate::regime::Times;
-use crate::regime::times_of;
+use crate::regime::Outline;
+use crate::regime::outline_of;
 use rule::Refusal;
 
 fn speed_offered(speed: u64) -> bool
@@ -80,7 +81,7 @@ pub struct Decided {
 
 // The decision, on a port whose lists stand in lent arrays.
 fn decide<'a>(
-    x: Times,
+    x: Outline,
     os: &'a [u8; 128],
     vs: &'a [u32; 128],
     ws: &'a [u8; 128],
@@ -112,7 +113,7 @@ impl Port {
     pub fn transmit(self, heads: [u64; 8], speed: u64) -> Transmitted
         ensures { λ r. ⌜ Stores heads speed self r ⌝ }
     {
-        let x = times_of(self);
+        let x = outline_of(self);
         let d = decide(
             x,
             &self.operating.list.octets,

@@ -13,8 +13,8 @@ ghost use Rattle.port.specs.Stretch.{Spanned, WalksList, Uniform};
 ghost use Rattle.port.specs.Round.{Free, Repeatable, Repeats, later, same, Repeated, WalksRounds, BaseAt};
 use crate::numbers::least;
 use crate::numbers::wide;
+use crate::regime::Outline;
 use crate::regime::Span;
-use crate::regime::Times;
 use crate::regime::regime;
 
 // How far a walk has come: the instant up to which every change is written, the octet shown there, how many are written; or that the next
@@ -393,7 +393,7 @@ fn walk_ruled<'a>(
 
 // Walks a span of a port from t on: the standing octet, or one of the port's two lists.
 fn walk_span<'a>(
-    x: Times,
+    x: Outline,
     os: &'a [u8; 128],
     vs: &'a [u32; 128],
     ws: &'a [u8; 128],
@@ -436,7 +436,7 @@ fn walk_span<'a>(
 
 // Walks from the clock, where an octet is shown, to a goal, and writes each change; or to 1 ns before the first change that has no room.
 pub fn walk_port<'a>(
-    x: Times,
+    x: Outline,
     os: &'a [u8; 128],
     vs: &'a [u32; 128],
     ws: &'a [u8; 128],

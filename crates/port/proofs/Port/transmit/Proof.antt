@@ -5,8 +5,8 @@ use borrow.Author.Needs.{needs}
 use Rattle.port.proofs.Port.transmit.Statement.{statement}
 use Rattle.port.proofs.Port.transmit.Tie as tie
 
-times-of-requires : tie.Need-times-of-requires
-times-of-requires c κs = search needs
+outline-of-requires : tie.Need-outline-of-requires
+outline-of-requires c κs = search needs
 
 decide-requires : tie.Need-decide-requires
 decide-requires c κs = search needs
@@ -15,12 +15,12 @@ returns : tie.Need-returns
 returns c =
     let t = c .before .before .before .before .before .before .before in
     let a = t .before .args in
-    transmit-stores (a .heads) (a .speed) (a .t1) _ (t .times-of .ensures) _ (c .before .decide .ensures)
+    transmit-stores (a .heads) (a .speed) (a .t1) _ (t .outline-of .ensures) _ (c .before .decide .ensures)
 
 pub transmit-spec : {M : Type 1} → statement M
 transmit-spec =
     tie.close
     (tie.spec
-    times-of-requires
+    outline-of-requires
     decide-requires
     returns)

@@ -170,12 +170,13 @@ impl Port {
         ensures { λ r. ⌜ Steps self goal (now (instants .entry)) (now (instants .exit)) (now (octets .entry)) (now (octets .exit)) r ⌝ }
     {
         let x = outline_of(self);
+        let p = self;
         let c = outcome(
             x,
-            &self.operating.list.octets,
-            &self.operating.list.intervals,
-            &self.waiting.config.list.octets,
-            &self.waiting.config.list.intervals,
+            &p.operating.list.octets,
+            &p.operating.list.intervals,
+            &p.waiting.config.list.octets,
+            &p.waiting.config.list.intervals,
             goal,
             instants,
             octets,
@@ -183,10 +184,10 @@ impl Port {
         match c {
             Course::Stays(reason) => Stepped {
                 answer: StepAnswer::Refused(reason),
-                port: self,
+                port: p,
             },
             Course::Goes(written, end, hit) => {
-                let port = moved(self, end, hit);
+                let port = moved(p, end, hit);
                 Stepped {
                     answer: StepAnswer::Written(written),
                     port,

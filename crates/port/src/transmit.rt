@@ -114,18 +114,18 @@ impl Port {
         ensures { λ r. ⌜ Stores heads speed self r ⌝ }
     {
         let x = outline_of(self);
+        let mut port = self;
         let d = decide(
             x,
-            &self.operating.list.octets,
-            &self.operating.list.intervals,
-            &self.waiting.config.list.octets,
-            &self.waiting.config.list.intervals,
+            &port.operating.list.octets,
+            &port.operating.list.intervals,
+            &port.waiting.config.list.octets,
+            &port.waiting.config.list.intervals,
             heads,
             speed,
         );
         let answer = d.answer;
         let frame = d.frame;
-        let mut port = self;
         port.frame = frame;
         Transmitted { answer, port }
     }

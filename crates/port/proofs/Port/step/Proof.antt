@@ -21,7 +21,7 @@ moved-requires : tie.Need-moved-requires
 moved-requires c κs =
     let a = c .before .before .before .before .before .before .before .before .before .before .before .before .before .before .before .before .before .before .args in
     let o = c .before .before .before .before .before .before .before .outcome in
-    course-fine (a .t1) (a .goal) (a .instants .now) _ (a .octets .now) _ _ (c .before .before .before .before .before .before .before .before .before .before .before .before .before .before .before .outline-of .ensures) (o .result) (o .ensures) _ _ _ (c .before .c2 .given .1)
+    course-fine (a .self) (a .goal) (a .instants .now) _ (a .octets .now) _ _ (c .before .before .before .before .before .before .before .before .before .before .before .before .before .before .before .outline-of .ensures) (o .result) (o .ensures) _ _ _ (c .before .c2 .given .1)
 
 same-length : tie.Need-same-length
 same-length c = search needs
@@ -33,7 +33,7 @@ returns : tie.Need-returns
 returns c =
     let a = c .before .before .before .before .before .before .before .before .before .before .before .before .before .before .before .before .before .before .args in
     let o = c .before .before .before .before .before .before .before .outcome in
-    step-stays (a .t1) (a .goal) (a .instants .now) _ (a .octets .now) _ _ (c .before .before .before .before .before .before .before .before .before .before .before .before .before .before .before .outline-of .ensures) (o .result) (o .ensures) _ (c .before .c .given .1)
+    step-stays (a .self) (a .goal) (a .instants .now) _ (a .octets .now) _ _ (c .before .before .before .before .before .before .before .before .before .before .before .before .before .before .before .outline-of .ensures) (o .result) (o .ensures) _ (c .before .c .given .1)
 
 same-length-3 : tie.Need-same-length-3
 same-length-3 c = search needs
@@ -45,7 +45,7 @@ returns-2 : tie.Need-returns-2
 returns-2 c =
     let a = c .before .before .before .before .before .before .before .before .before .before .before .before .before .before .before .before .before .before .before .args in
     let o = c .before .before .before .before .before .before .before .before .outcome in
-    step-goes (a .t1) (a .goal) (a .instants .now) _ (a .octets .now) _ _ (c .before .before .before .before .before .before .before .before .before .before .before .before .before .before .before .before .outline-of .ensures) (o .result) (o .ensures) _ _ _ (c .before .before .c2 .given .1) (c .moved .result) (c .moved .ensures)
+    step-goes (a .self) (a .goal) (a .instants .now) _ (a .octets .now) _ _ (c .before .before .before .before .before .before .before .before .before .before .before .before .before .before .before .before .outline-of .ensures) (o .result) (o .ensures) _ _ _ (c .before .before .c2 .given .1) (c .moved .result) (c .moved .ensures)
 
 pub step-spec : {M : Type 1} → statement M
 step-spec =

@@ -15,7 +15,7 @@ returns : tie.Need-returns
 returns c =
     let t = c .before .before .before .before .before .before .before in
     let a = t .before .args in
-    transmit-stores (a .heads) (a .speed) (a .t1) _ (t .outline-of .ensures) _ (c .before .decide .ensures)
+    transmit-stores (a .heads) (a .speed) (a .self) _ (t .outline-of .ensures) _ (c .before .decide .ensures)
 
 pub transmit-spec : {M : Type 1} → statement M
 transmit-spec =

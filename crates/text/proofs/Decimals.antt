@@ -1,4 +1,5 @@
--- The fewest decimal digits that hold a number, as `io` gives them, are its shortest decimal form.
+-- The fewest decimal digits that hold a number, as `io` gives them, are its shortest decimal form (`fewest-decimal`); a number below the k-th power of ten
+-- has at most k digits (`decimal-short`).
 -- Assumes nothing.
 use mathlib.Core.Path.{_≡_, refl, ap, sym, subst, _∙_}
 use mathlib.Core.Bool.{Bool, true, false}
@@ -8,6 +9,7 @@ use native.Mathlib.Nat.{pow-suc, one-le-pow}
 use native.Mathlib.Omega.{arith}
 use borrow.Author.Tests.{lt-ltb, le-ltb, ltb-true, ltb-false}
 use lib.Dec.{ltb}
+use lib.ListN.{length, length-append}
 use Rattle.io.specs.Digits.{digits, Fewest, glyph}
 use Rattle.text.specs.Decimal.{digitsUpTo, decimalOf}
 
@@ -69,3 +71,15 @@ fewest-decimal (suc (suc k)) n f =
     let high : 10 ^ (suc k - 1) ≤ n / 10 = subst (λ j. 10 ^ j ≤ n / 10) (sym g) (tenth-above (10 ^ k) n above) in
     ap (λ l. l ++ (glyph (n % 10) ∷ [])) (fewest-decimal (suc k) (n / 10) (omega arith, tenth-below (10 ^ suc k) n below, λ q. high))
     ∙ ap (λ x. decimalOf (n / 10) ++ (x ∷ [])) (glyph-digit (n % 10) (omega arith)) ∙ sym (decimal-more n some)
+
+pub decimal-short : (k n : ℕ) → n < 10 ^ suc k → length (decimalOf n) ≤ suc k
+decimal-short zero n h = subst (λ l. length l ≤ 1) (sym (decimal-last n h)) (omega arith)
+decimal-short (suc k) n h = go (ltb n 10) refl (decimal-short k (n / 10))
+  where
+    go : (b : Bool) → ltb n 10 ≡ b → (n / 10 < 10 ^ suc k → length (decimalOf (n / 10)) ≤ suc k) → length (decimalOf n) ≤ suc (suc k)
+    go true e ih = subst (λ l. length l ≤ suc (suc k)) (sym (decimal-last n (ltb-true n 10 e))) (omega arith)
+    go false e ih =
+        let d : ℕ = n % 10 in
+        let z : length (decimalOf (n / 10)) ≤ suc k = ih (tenth-below (10 ^ suc k) n (subst (λ x. n < x) (pow-suc 10 (suc k)) h)) in
+        let l : length (decimalOf (n / 10) ++ ((48 + d) ∷ [])) ≡ length (decimalOf (n / 10)) + 1 = length-append (decimalOf (n / 10)) ((48 + d) ∷ []) in
+        subst (λ l. length l ≤ suc (suc k)) (sym (decimal-more n (ltb-false n 10 e))) (omega (arith, z, l))

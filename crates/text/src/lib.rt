@@ -74,9 +74,10 @@ pub fn spaced(out: &mut [u8], at: usize, n: u64) -> usize {
     decimal(out, at, n)
 }
 
-// Writes the first n octets of a buffer to standard output.
-pub fn show(out: &[u8], n: usize) {
-    if n <= out.len() {
-        io::write_all(1, &out[..n]);
+// Writes the first n octets of a buffer to standard output, and answers whether all were taken: not if there are fewer, or if a write fails.
+pub fn show(out: &[u8], n: usize) -> bool {
+    if out.len() < n {
+        return false;
     }
+    io::write_all(1, &out[..n])
 }

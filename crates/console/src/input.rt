@@ -1,7 +1,8 @@
-// The lines of standard input, answered one by one as they come.
-ghost use Prim.Native.Nat.{_≤_};
+// The lines of standard input, answered one by one as they come. A read or a write that fails is said on standard error and ends it; a line that a failed read
+// has cut is not looked at.
 use crate::calls::call;
 use port::Port;
+use text::Input;
 
 // How far the input is taken, where the first line that is not answered begins, the port, and whether the input is over.
 struct Desk {
@@ -9,6 +10,12 @@ struct Desk {
     begun: usize,
     port: Port,
     over: bool,
+}
+
+// The port after a line, and whether the line's answer was written.
+struct Answered {
+    port: Port,
+    written: bool,
 }
 
 // The octets that are taken at most.
@@ -24,39 +31,35 @@ fn closed(out: &mut [u8], is_call: bool, at: usize) -> usize {
 }
 
 // Answers a line, if it is not empty and no remark.
-fn answer(s: &[u8], p: Port, out: &mut [u8]) -> Port {
+fn answer(s: &[u8], p: Port, out: &mut [u8]) -> Answered {
     if s.len() == 0 {
-        return p;
+        return Answered {
+            port: p,
+            written: true,
+        };
     }
     if s[0] == b'#' {
-        return p;
+        return Answered {
+            port: p,
+            written: true,
+        };
     }
     let h = call(s, p, out);
     let end = closed(out, h.is_call, h.at);
-    text::show(out, end);
-    h.port
-}
-
-// The place of the first line end from a place on, or the end.
-fn line_end(s: &[u8], at: usize) -> usize
-    ensures { λ r. ⌜ at ≤ r ⌝ }
-{
-    let mut i = at;
-    while i < s.len() {
-        if s[i] == b'\n' {
-            return i;
-        }
-        i = i + 1;
+    let written = text::show(out, end);
+    if !written {
+        text::complain(b"console: standard output cannot be written");
     }
-    i
+    let port = h.port;
+    Answered { port, written }
 }
 
-// Answers each whole line from a place on.
+// Answers each whole line from a place on, until an answer cannot be written.
 fn answer_lines(s: &[u8], d: Desk, out: &mut [u8]) -> Desk {
     let mut begun = d.begun;
     let mut port = d.port;
     while begun < s.len() {
-        let end = line_end(s, begun);
+        let end = text::find(s, begun, b'\n');
         if s.len() <= end {
             return Desk {
                 used: d.used,
@@ -65,8 +68,17 @@ fn answer_lines(s: &[u8], d: Desk, out: &mut [u8]) -> Desk {
                 over: d.over,
             };
         }
-        port = answer(text::part(s, begun, end), port, out);
+        let a = answer(text::part(s, begun, end), port, out);
+        port = a.port;
         begun = end + 1;
+        if !a.written {
+            return Desk {
+                used: d.used,
+                begun,
+                port,
+                over: true,
+            };
+        }
     }
     Desk {
         used: d.used,
@@ -76,15 +88,6 @@ fn answer_lines(s: &[u8], d: Desk, out: &mut [u8]) -> Desk {
     }
 }
 
-// Reads once, behind what is taken. The same place: the input is at its end.
-fn take(taken: &mut [u8], used: usize) -> usize {
-    if taken.len() <= used {
-        return used;
-    }
-    let got = libc::read(0, &mut taken[used..]);
-    used + io::count(got, &taken[used..])
-}
-
 fn least(a: usize, b: usize) -> usize {
     if a < b { a } else { b }
 }
@@ -92,7 +95,8 @@ fn least(a: usize, b: usize) -> usize {
 // Answers the lines that have come; at the end, also a last one with no line end.
 fn answer_taken(taken: &[u8], used: usize, d: Desk, out: &mut [u8]) -> Desk {
     if used == d.used {
-        let port = answer(text::part(taken, d.begun, used), d.port, out);
+        let a = answer(text::part(taken, d.begun, used), d.port, out);
+        let port = a.port;
         return Desk {
             used,
             begun: used,
@@ -110,12 +114,27 @@ fn answer_taken(taken: &[u8], used: usize, d: Desk, out: &mut [u8]) -> Desk {
     answer_lines(text::part(taken, 0, least(used, LONGEST)), next, out)
 }
 
+// Ends it: the input cannot be read.
+fn unread(d: Desk) -> Desk {
+    text::complain(b"console: standard input cannot be read");
+    let port = d.port;
+    Desk {
+        used: d.used,
+        begun: d.begun,
+        port,
+        over: true,
+    }
+}
+
 // Reads once and answers.
 fn turn(taken: &mut [u8], d: Desk, out: &mut [u8]) -> Desk {
-    let used = take(taken, d.used);
+    let Input::Octets(used) = text::take(taken, d.used) else {
+        return unread(d);
+    };
     let next = answer_taken(taken, used, d, out);
     if LONGEST < used {
         io::write_all(1, b"input too long\n");
+        text::complain(b"console: the input has more than 1048576 octets");
     }
     next
 }

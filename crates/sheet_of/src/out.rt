@@ -46,7 +46,9 @@ pub fn write_sheet(f: Form, list: &[u8]) {
     let at = put_rest(&mut out, at, f);
     let n = entries_end(f.entries);
     let at = text::put(&mut out, at, text::part(list, 0, n));
-    text::show(&out, at);
+    if !text::show(&out, at) {
+        text::complain(b"sheet_of: standard output cannot be written");
+    }
 }
 
 // The octets of so many entries, at most 128.
@@ -64,6 +66,7 @@ fn put_error(out: &mut [u8], at: usize, error: u8) -> usize {
         3 => text::put(out, at, b"number too large for its place"),
         4 => text::put(out, at, b"too few or too many numbers"),
         5 => text::put(out, at, b"given twice"),
+        7 => text::put(out, at, b"an interval of 0"),
         _ => text::put(out, at, b"more than 128 entries"),
     }
 }
@@ -94,17 +97,12 @@ fn put_line(out: &mut [u8], n: u64) -> usize {
     text::put(out, at, b": ")
 }
 
-fn complain(out: &[u8], at: usize) {
-    io::write_all(2, text::part(out, 0, at));
-    io::write_all(2, b"\n");
-}
-
 // Writes a line's error.
 pub fn write_error(f: Form) {
     let mut out = [0u8; 128];
     let at = put_line(&mut out, f.line);
     let at = put_error(&mut out, at, f.error);
-    complain(&out, at);
+    text::complain(text::part(&out, 0, at));
 }
 
 // Writes which field is missing at the last line.
@@ -112,5 +110,5 @@ pub fn write_missing(f: Form) {
     let mut out = [0u8; 128];
     let at = put_line(&mut out, f.line);
     let at = put_missing(&mut out, at, f.given);
-    complain(&out, at);
+    text::complain(text::part(&out, 0, at));
 }

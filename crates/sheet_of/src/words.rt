@@ -18,12 +18,6 @@ pub const NO_NUMBER: u8 = 2;
 
 pub const TOO_LARGE: u8 = 3;
 
-fn wide(x: u8) -> u64
-    ensures { λ r. ⌜ (r ≡ x) × (r < 256) ⌝ }
-{
-    x as u64
-}
-
 fn is_blank(b: u8) -> bool {
     (b == b' ') | ((b == b'\t') | (b == b'\r'))
 }
@@ -47,18 +41,6 @@ pub fn next_word(s: &[u8], at: usize) -> Word {
     Word { first, end }
 }
 
-// The place at which a remark begins, or the end.
-pub fn remark(s: &[u8]) -> usize {
-    let mut i: usize = 0;
-    while i < s.len() {
-        if s[i] == b'#' {
-            return i;
-        }
-        i = i + 1;
-    }
-    i
-}
-
 // A digit's value; 16 is none.
 fn digit(b: u8) -> u64
     ensures { λ r. ⌜ r ≤ 16 ⌝ }
@@ -67,19 +49,19 @@ fn digit(b: u8) -> u64
         return 16;
     }
     if b < 58 {
-        return wide(b) - 48;
+        return text::wide(b) - 48;
     }
     if b < 65 {
         return 16;
     }
     if b < 71 {
-        return wide(b) - 55;
+        return text::wide(b) - 55;
     }
     if b < 97 {
         return 16;
     }
     if b < 103 {
-        return wide(b) - 87;
+        return text::wide(b) - 87;
     }
     16
 }

@@ -20,6 +20,10 @@ putAt s at b = cond (leb (at + length s) (length b)) (record { next = at + lengt
 abbrev pub Puts : List ℕ → ℕ → List ℕ → ℕ → List ℕ → Type 0
 Puts s at b next buffer = _≡_ {A = Put} (record { next = next; buffer = buffer }) (putAt s at b)
 
+-- one text, then another behind it, each if it fits
+abbrev pub PutsBehind : List ℕ → List ℕ → ℕ → List ℕ → ℕ → List ℕ → Type 0
+PutsBehind s t at b next buffer = Puts t (putAt s at b .next) (putAt s at b .buffer) next buffer
+
 -- the ASCII code of a digit below 16: `0` to `9`, then `A` to `F`
 abbrev pub glyphOf : ℕ → ℕ
 glyphOf d = cond (ltb d 10) (48 + d) (55 + d)

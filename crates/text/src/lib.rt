@@ -1,11 +1,13 @@
 // Text for people, in ASCII: octets and numbers put into a lent buffer at a place, and numbers taken from a line. Putting answers the next place; what does
 // not fit is left out, and the buffer and the place stay as they were.
 ghost use mathlib.Core.Path.{_≡_};
+ghost use mathlib.Core.List.{[], _∷_};
 ghost use Prim.Native.Nat.{_<_};
 ghost use Rattle.text.specs.Decimal.{decimalOf};
-ghost use Rattle.text.specs.Put.{Puts, glyphOf, hexOf};
+ghost use Rattle.text.specs.Put.{Puts, PutsBehind, glyphOf, hexOf};
 
 mod scan;
+mod stream;
 
 pub use scan::Scan;
 pub use scan::Taken;
@@ -14,6 +16,7 @@ pub use scan::Taken32;
 pub use scan::TakenMark;
 pub use scan::Token;
 pub use scan::at_end;
+pub use scan::find;
 pub use scan::mark;
 pub use scan::next;
 pub use scan::number;
@@ -23,6 +26,11 @@ pub use scan::number64;
 pub use scan::part;
 pub use scan::same;
 pub use scan::start;
+pub use scan::wide;
+pub use stream::Input;
+pub use stream::complain;
+pub use stream::take;
+pub use stream::take_all;
 
 // Puts octets at a place.
 pub fn put(out: &mut [u8], at: usize, s: &[u8]) -> usize
@@ -69,7 +77,9 @@ pub fn decimal(out: &mut [u8], at: usize, n: u64) -> usize
 }
 
 // Puts a space and a number in decimal.
-pub fn spaced(out: &mut [u8], at: usize, n: u64) -> usize {
+pub fn spaced(out: &mut [u8], at: usize, n: u64) -> usize
+    ensures { λ r. ⌜ PutsBehind (32 ∷ []) (decimalOf n) at (now (out .entry)) r (now (out .exit)) ⌝ }
+{
     let at = put(out, at, b" ");
     decimal(out, at, n)
 }

@@ -2,6 +2,7 @@
 // it takes nothing. Every function takes any line and any scan.
 ghost use Prim.Native.Nat.{_<_, _≤_};
 ghost use mathlib.Core.Path.{_≡_};
+ghost use Rattle.text.specs.Scan.{firstScan, atEnd, findFrom, sameOctets};
 
 // Where a scan of a line stands. Begun: a token was taken, so the next has a space before it.
 pub struct Scan {
@@ -45,14 +46,17 @@ struct Value {
     good: bool,
 }
 
-fn wide(x: u8) -> u64
+// An octet as a number.
+pub fn wide(x: u8) -> u64
     ensures { λ r. ⌜ (r ≡ x) × (r < 256) ⌝ }
 {
     x as u64
 }
 
 // The scan at a line's first token.
-pub fn start() -> Scan {
+pub fn start() -> Scan
+    ensures { λ r. ⌜ r ≡ firstScan ⌝ }
+{
     Scan {
         at: 0,
         good: true,
@@ -69,11 +73,13 @@ fn stopped(at: usize) -> Scan {
     }
 }
 
-// The place of the first space from a place on, or the line's end.
-fn space_from(s: &[u8], at: usize) -> usize {
+// The first place from a place on that has this octet, or the end; the place itself where it is past the end.
+pub fn find(s: &[u8], at: usize, octet: u8) -> usize
+    ensures { λ r. ⌜ r ≡ findFrom (now (s .entry)) at octet ⌝ }
+{
     let mut i = at;
     while i < s.len() {
-        if s[i] == b' ' {
+        if s[i] == octet {
             return i;
         }
         i = i + 1;
@@ -83,7 +89,7 @@ fn space_from(s: &[u8], at: usize) -> usize {
 
 // A token from a place to the next space.
 fn token_at(s: &[u8], first: usize) -> Token {
-    let end = space_from(s, first);
+    let end = find(s, first, b' ');
     Token {
         first,
         end,
@@ -129,7 +135,9 @@ pub fn part(s: &[u8], first: usize, end: usize) -> &[u8] {
 }
 
 // The scan has taken the whole line, and each token fitted its place.
-pub fn at_end(s: &[u8], c: Scan) -> bool {
+pub fn at_end(s: &[u8], c: Scan) -> bool
+    ensures { λ r. ⌜ r ≡ atEnd (now (s .entry)) c ⌝ }
+{
     c.good & (c.at == s.len())
 }
 
@@ -229,7 +237,9 @@ pub fn mark(s: &[u8], c: Scan) -> TakenMark {
 }
 
 // Two runs of octets are the same.
-pub fn same(a: &[u8], b: &[u8]) -> bool {
+pub fn same(a: &[u8], b: &[u8]) -> bool
+    ensures { λ r. ⌜ r ≡ sameOctets (now (a .entry)) (now (b .entry)) ⌝ }
+{
     if a.len() != b.len() {
         return false;
     }

@@ -16,8 +16,8 @@ abbrev μ-loop : tie.MeasureT-loop
 loop-holds : tie.Need-loop-holds Inv-loop μ-loop
 loop-holds c = search needs
 
-line-end-requires : tie.Need-line-end-requires Inv-loop μ-loop
-line-end-requires c κs = search needs
+find-requires : tie.Need-find-requires Inv-loop μ-loop
+find-requires c κs = search needs
 
 same-length : tie.Need-same-length Inv-loop μ-loop
 same-length c = search needs
@@ -34,17 +34,23 @@ answer-requires c κs = search needs
 add-begun : tie.Need-add-begun Inv-loop μ-loop
 add-begun c = search needs
 
+same-length-2 : tie.Need-same-length-2 Inv-loop μ-loop
+same-length-2 c = search needs
+
+returns-2 : tie.Need-returns-2 Inv-loop μ-loop
+returns-2 c = search needs
+
 loop-less : tie.Need-loop-less Inv-loop μ-loop
 loop-less c = search needs
 
 loop-again : tie.Need-loop-again Inv-loop μ-loop
 loop-again c = search needs
 
-same-length-2 : tie.Need-same-length-2 Inv-loop μ-loop
-same-length-2 c = search needs
+same-length-3 : tie.Need-same-length-3 Inv-loop μ-loop
+same-length-3 c = search needs
 
-returns-2 : tie.Need-returns-2 Inv-loop μ-loop
-returns-2 c = search needs
+returns-3 : tie.Need-returns-3 Inv-loop μ-loop
+returns-3 c = search needs
 
 pub answer-lines-spec : {M : Type 1} → statement M
 answer-lines-spec =
@@ -53,13 +59,15 @@ answer-lines-spec =
     Inv-loop
     μ-loop
     loop-holds
-    line-end-requires
+    find-requires
     same-length
     returns
     part-requires
     answer-requires
     add-begun
+    same-length-2
+    returns-2
     loop-less
     loop-again
-    same-length-2
-    returns-2)
+    same-length-3
+    returns-3)

@@ -2,7 +2,8 @@
 use crate::words::Word;
 use crate::words::next_word;
 use crate::words::number;
-use crate::words::remark;
+use gatelist::GateList;
+use gatelist::Written;
 
 // The fields so far, which of them are given (a bit for each), the entries' octets in use, the line, and the error: 0 is none.
 pub struct Form {
@@ -26,6 +27,8 @@ pub const COUNT: u8 = 4;
 pub const TWICE: u8 = 5;
 
 pub const TOO_MANY: u8 = 6;
+
+pub const NO_INTERVAL: u8 = 7;
 
 pub fn empty() -> Form {
     Form {
@@ -118,24 +121,38 @@ fn with_field(f: Form, k: u8, x: u64, y: u64) -> Form {
     }
 }
 
+// The list of one entry.
+fn one_entry(octet: u8, interval: u32) -> GateList {
+    let mut octets = [0u8; 128];
+    let mut intervals = [0u32; 128];
+    octets[0] = octet;
+    intervals[0] = interval;
+    GateList {
+        octets,
+        intervals,
+        len: 1,
+    }
+}
+
 // The form with an entry more, whose seven octets go to their place.
-fn with_entry(f: Form, octet: u8, v: u32, list: &mut [u8]) -> Form {
+fn with_entry(f: Form, octet: u8, interval: u32, list: &mut [u8]) -> Form {
     if 128 <= f.entries {
         return failed(f, TOO_MANY);
     }
-    let octets = [
-        0,
-        5,
-        octet,
-        (v / 16777216 % 256) as u8,
-        (v / 65536 % 256) as u8,
-        (v / 256 % 256) as u8,
-        (v % 256) as u8,
-    ];
-    text::put(list, 7 * f.entries as usize, &octets);
-    let mut g = f;
-    g.entries = f.entries + 1;
-    g
+    let at = 7 * f.entries as usize;
+    if list.len() < at {
+        return failed(f, TOO_MANY);
+    }
+    let one = one_entry(octet, interval);
+    let w = one.write(&mut list[at..]);
+    match w {
+        Written::Unwritten(_) => failed(f, NO_INTERVAL),
+        Written::Octets(_) => {
+            let mut g = f;
+            g.entries = f.entries + 1;
+            g
+        }
+    }
 }
 
 // A line of a field with one number.
@@ -212,7 +229,7 @@ fn words(t: &[u8], f: Form, a: Word, list: &mut [u8]) -> Form {
 
 // A line.
 pub fn line(s: &[u8], f: Form, list: &mut [u8]) -> Form {
-    let t = text::part(s, 0, remark(s));
+    let t = text::part(s, 0, text::find(s, 0, b'#'));
     let a = next_word(t, 0);
     let mut g = f;
     if f.line < 18_446_744_073_709_551_615 {

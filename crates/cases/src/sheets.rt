@@ -1,648 +1,221 @@
-// Sheets, and what the listing program writes for each: that of document 01, and damaged ones.
+// The table of sheets, and what the listing program writes for each: that of document 01 and one whose changes fill more than a page; one for each refusal; and one for
+// each two refusals that the listing's order tells apart.
+use lister::Listed;
 
-// A sheet's title and its listing.
-fn show(title: &[u8], octets: &[u8]) {
+// A sheet's title and its listing, and whether both were written.
+fn show(title: &[u8], octets: &[u8]) -> bool {
     io::write_all(1, title);
     io::write_all(1, b"\n");
-    lister::list(octets);
+    let done = lister::list(octets);
+    match done {
+        Listed::Whole(_) => true,
+        Listed::Cut => false,
+    }
 }
 
-fn sheet_1() {
-    show(
-        b"# the sheet of document 01",
-        &[
-            0xff,
-            0x01,
-            0x01,
-            0xc0,
-            0x84,
-            0x3d,
-            0x00,
-            0x88,
-            0x27,
-            0xa4,
-            0x26,
-            0x9c,
-            0x31,
-            0x02,
-            0x00,
-            0x05,
-            0x80,
-            0x00,
-            0x00,
-            0x01,
-            0x2c,
-            0x00,
-            0x05,
-            0x01,
-            0x00,
-            0x00,
-            0x01,
-            0xf4,
-        ],
-    );
+// The row k of the sheets that are not refused; false behind the last.
+fn accepted(k: u64) -> bool {
+    match k {
+        0 => show(
+            b"# the sheet of document 01",
+            b"\xff\x01\x01\xc0\x84\x3d\x00\x88\x27\xa4\x26\x9c\x31\x02\x00\x05\x80\x00\x00\x01\x2c\x00\x05\x01\x00\x00\x01\xf4",
+        ),
+        1 => show(
+            b"# 1,025 changes, more than one page has",
+            b"\xff\x01\x01\xc0\x84\x3d\x00\x00\x00\xac\xa2\x1f\x02\x00\x05\x80\x00\x00\x01\x2c\x00\x05\x01\x00\x00\x01\xf4",
+        ),
+        _ => false,
+    }
 }
 
-fn sheet_2() {
-    show(
-        b"# 1: the list ends inside its second entry",
-        &[
-            0xff,
-            0x01,
-            0x01,
-            0xc0,
-            0x84,
-            0x3d,
-            0x00,
-            0x88,
-            0x27,
-            0xa4,
-            0x26,
-            0x9c,
-            0x31,
-            0x02,
-            0x00,
-            0x05,
-            0x80,
-            0x00,
-            0x00,
-            0x01,
-            0x2c,
-            0x00,
-            0x05,
-            0x01,
-            0x00,
-            0x00,
-            0x01,
-        ],
-    );
+// The row k of the sheets that meet one refusal.
+fn refused(k: u64) -> bool {
+    match k {
+        0 => show(
+            b"# 1: the list ends inside its second entry",
+            b"\xff\x01\x01\xc0\x84\x3d\x00\x88\x27\xa4\x26\x9c\x31\x02\x00\x05\x80\x00\x00\x01\x2c\x00\x05\x01\x00\x00\x01",
+        ),
+        1 => show(
+            b"# 2: an operation of 1",
+            b"\xff\x01\x01\xc0\x84\x3d\x00\x88\x27\xa4\x26\x9c\x31\x02\x01\x05\x80\x00\x00\x01\x2c\x00\x05\x01\x00\x00\x01\xf4",
+        ),
+        2 => show(
+            b"# 3: a length octet of 6",
+            b"\xff\x01\x01\xc0\x84\x3d\x00\x88\x27\xa4\x26\x9c\x31\x02\x00\x06\x80\x00\x00\x01\x2c\x00\x05\x01\x00\x00\x01\xf4",
+        ),
+        3 => show(
+            b"# 4: an interval of 0",
+            b"\xff\x01\x01\xc0\x84\x3d\x00\x88\x27\xa4\x26\x9c\x31\x02\x00\x05\x80\x00\x00\x00\x00\x00\x05\x01\x00\x00\x01\xf4",
+        ),
+        4 => show(
+            b"# 5: a stated length of 0",
+            b"\xff\x01\x01\xc0\x84\x3d\x00\x88\x27\xa4\x26\x9c\x31\x00\x00\x05\x80\x00\x00\x01\x2c\x00\x05\x01\x00\x00\x01\xf4",
+        ),
+        5 => show(
+            b"# 5: an octet remains behind the list",
+            b"\xff\x01\x01\xc0\x84\x3d\x00\x88\x27\xa4\x26\x9c\x31\x02\x00\x05\x80\x00\x00\x01\x2c\x00\x05\x01\x00\x00\x01\xf4\x00",
+        ),
+        6 => show(
+            b"# 8: a cycle of 1/3 s",
+            b"\xff\x01\x01\x03\x00\x88\x27\xa4\x26\x9c\x31\x02\x00\x05\x80\x00\x00\x01\x2c\x00\x05\x01\x00\x00\x01\xf4",
+        ),
+        7 => show(
+            b"# 9: a start above the largest instant",
+            b"\xff\x01\x01\xc0\x84\x3d\x00\x88\x27\x81\x80\x90\x94\x8e\x8a\x9b\xf3\x7c\x9c\x31\x02\x00\x05\x80\x00\x00\x01\x2c\x00\x05\x01\x00\x00\x01\xf4",
+        ),
+        8 => show(
+            b"# 9: a base above the largest instant",
+            b"\xff\x01\x01\xc0\x84\x3d\x00\x81\x80\x90\x94\x8e\x8a\x9b\xf3\x7c\xa4\x26\x9c\x31\x02\x00\x05\x80\x00\x00\x01\x2c\x00\x05\x01\x00\x00\x01\xf4",
+        ),
+        9 => show(
+            b"# 9: an end above the largest instant",
+            b"\xff\x01\x01\xc0\x84\x3d\x00\x88\x27\xa4\x26\x81\x80\x90\x94\x8e\x8a\x9b\xf3\x7c\x02\x00\x05\x80\x00\x00\x01\x2c\x00\x05\x01\x00\x00\x01\xf4",
+        ),
+        10 => show(
+            b"# 10: an end before the start",
+            b"\xff\x01\x01\xc0\x84\x3d\x00\x88\x27\xa4\x26\xa3\x26\x02\x00\x05\x80\x00\x00\x01\x2c\x00\x05\x01\x00\x00\x01\xf4",
+        ),
+        11 => show(
+            b"# 11: a span of 1,000,000,001 ns",
+            b"\xff\x01\x01\xc0\x84\x3d\x00\x88\x27\xa4\x26\xa5\xba\xeb\xdc\x03\x02\x00\x05\x80\x00\x00\x01\x2c\x00\x05\x01\x00\x00\x01\xf4",
+        ),
+        12 => show(
+            b"# 15: the number 0 as 80 00",
+            b"\xff\x01\xc0\x84\x3d\x80\x00\x00\x88\x27\xa4\x26\x9c\x31\x02\x00\x05\x80\x00\x00\x01\x2c\x00\x05\x01\x00\x00\x01\xf4",
+        ),
+        13 => show(
+            b"# 15: a standing octet of 256",
+            b"\x80\x02\x01\xc0\x84\x3d\x00\x88\x27\xa4\x26\x9c\x31\x02\x00\x05\x80\x00\x00\x01\x2c\x00\x05\x01\x00\x00\x01\xf4",
+        ),
+        14 => show(
+            b"# 15: cut short inside the end",
+            b"\xff\x01\x01\xc0\x84\x3d\x00\x88\x27\xa4\x26",
+        ),
+        _ => false,
+    }
 }
 
-fn sheet_3() {
-    show(
-        b"# 2: an operation of 1",
-        &[
-            0xff,
-            0x01,
-            0x01,
-            0xc0,
-            0x84,
-            0x3d,
-            0x00,
-            0x88,
-            0x27,
-            0xa4,
-            0x26,
-            0x9c,
-            0x31,
-            0x02,
-            0x01,
-            0x05,
-            0x80,
-            0x00,
-            0x00,
-            0x01,
-            0x2c,
-            0x00,
-            0x05,
-            0x01,
-            0x00,
-            0x00,
-            0x01,
-            0xf4,
-        ],
-    );
+// The row k of the sheets that meet 15 or the list's own refusal, and another that comes later.
+fn before_calls(k: u64) -> bool {
+    match k {
+        0 => show(
+            b"# 15 and 2: a list length of 82 00",
+            b"\xff\x01\x01\xc0\x84\x3d\x00\x88\x27\xa4\x26\x9c\x31\x82\x00\x01\x05\x80\x00\x00\x01\x2c\x00\x05\x01\x00\x00\x01\xf4",
+        ),
+        1 => show(
+            b"# 15 and 9: cut short, and start",
+            b"\xff\x01\x01\xc0\x84\x3d\x00\x88\x27\x81\x80\x90\x94\x8e\x8a\x9b\xf3\x7c\x9c\x31\x82",
+        ),
+        2 => show(
+            b"# 15 and 8: cut short, and the cycle",
+            b"\xff\x01\x01\x03\x00\x88\x27\xa4\x26\x9c\x31\x82",
+        ),
+        3 => show(
+            b"# 15 and 9: cut short, and base",
+            b"\xff\x01\x01\xc0\x84\x3d\x00\x81\x80\x90\x94\x8e\x8a\x9b\xf3\x7c\xa4\x26\x9c\x31\x82",
+        ),
+        4 => show(
+            b"# 15 and 9: cut short, and end",
+            b"\xff\x01\x01\xc0\x84\x3d\x00\x88\x27\xa4\x26\x81\x80\x90\x94\x8e\x8a\x9b\xf3\x7c\x82",
+        ),
+        5 => show(
+            b"# 15 and 10: cut short, and an end before start",
+            b"\xff\x01\x01\xc0\x84\x3d\x00\x88\x27\xa4\x26\xa3\x26\x82",
+        ),
+        6 => show(
+            b"# 15 and 11: cut short, and a span too long",
+            b"\xff\x01\x01\xc0\x84\x3d\x00\x88\x27\xa4\x26\xa5\xba\xeb\xdc\x03\x82",
+        ),
+        7 => show(
+            b"# 2 and 9: the list, and start",
+            b"\xff\x01\x01\xc0\x84\x3d\x00\x88\x27\x81\x80\x90\x94\x8e\x8a\x9b\xf3\x7c\x9c\x31\x02\x01\x05\x80\x00\x00\x01\x2c\x00\x05\x01\x00\x00\x01\xf4",
+        ),
+        8 => show(
+            b"# 2 and 8: the list, and the cycle",
+            b"\xff\x01\x01\x03\x00\x88\x27\xa4\x26\x9c\x31\x02\x01\x05\x80\x00\x00\x01\x2c\x00\x05\x01\x00\x00\x01\xf4",
+        ),
+        9 => show(
+            b"# 2 and 9: the list, and base",
+            b"\xff\x01\x01\xc0\x84\x3d\x00\x81\x80\x90\x94\x8e\x8a\x9b\xf3\x7c\xa4\x26\x9c\x31\x02\x01\x05\x80\x00\x00\x01\x2c\x00\x05\x01\x00\x00\x01\xf4",
+        ),
+        10 => show(
+            b"# 2 and 9: the list, and end",
+            b"\xff\x01\x01\xc0\x84\x3d\x00\x88\x27\xa4\x26\x81\x80\x90\x94\x8e\x8a\x9b\xf3\x7c\x02\x01\x05\x80\x00\x00\x01\x2c\x00\x05\x01\x00\x00\x01\xf4",
+        ),
+        11 => show(
+            b"# 2 and 10: the list, and an end before start",
+            b"\xff\x01\x01\xc0\x84\x3d\x00\x88\x27\xa4\x26\xa3\x26\x02\x01\x05\x80\x00\x00\x01\x2c\x00\x05\x01\x00\x00\x01\xf4",
+        ),
+        12 => show(
+            b"# 2 and 11: the list, and a span too long",
+            b"\xff\x01\x01\xc0\x84\x3d\x00\x88\x27\xa4\x26\xa5\xba\xeb\xdc\x03\x02\x01\x05\x80\x00\x00\x01\x2c\x00\x05\x01\x00\x00\x01\xf4",
+        ),
+        _ => false,
+    }
 }
 
-fn sheet_4() {
-    show(
-        b"# 3: a length octet of 6",
-        &[
-            0xff,
-            0x01,
-            0x01,
-            0xc0,
-            0x84,
-            0x3d,
-            0x00,
-            0x88,
-            0x27,
-            0xa4,
-            0x26,
-            0x9c,
-            0x31,
-            0x02,
-            0x00,
-            0x06,
-            0x80,
-            0x00,
-            0x00,
-            0x01,
-            0x2c,
-            0x00,
-            0x05,
-            0x01,
-            0x00,
-            0x00,
-            0x01,
-            0xf4,
-        ],
-    );
+// The row k of the sheets that meet two refusals of the calls.
+fn between_calls(k: u64) -> bool {
+    match k {
+        0 => show(
+            b"# 11 and 8: the cycle is refused first",
+            b"\xff\x01\x01\x03\x00\x88\x27\xa4\x26\xa5\xba\xeb\xdc\x03\x02\x00\x05\x80\x00\x00\x01\x2c\x00\x05\x01\x00\x00\x01\xf4",
+        ),
+        1 => show(
+            b"# 9 and 8: start, and the cycle",
+            b"\xff\x01\x01\x03\x00\x88\x27\x81\x80\x90\x94\x8e\x8a\x9b\xf3\x7c\x9c\x31\x02\x00\x05\x80\x00\x00\x01\x2c\x00\x05\x01\x00\x00\x01\xf4",
+        ),
+        2 => show(
+            b"# 9 and 10: start, and an end before start",
+            b"\xff\x01\x01\xc0\x84\x3d\x00\x88\x27\x81\x80\x90\x94\x8e\x8a\x9b\xf3\x7c\x9c\x31\x02\x00\x05\x80\x00\x00\x01\x2c\x00\x05\x01\x00\x00\x01\xf4",
+        ),
+        3 => show(
+            b"# 9 and 11: start, and a span too long",
+            b"\xff\x01\x01\xc0\x84\x3d\x00\x88\x27\x81\x80\x90\x94\x8e\x8a\x9b\xf3\x7c\x82\x94\xfb\xf0\x91\x8a\x9b\xf3\x7c\x02\x00\x05\x80\x00\x00\x01\x2c\x00\x05\x01\x00\x00\x01\xf4",
+        ),
+        4 => show(
+            b"# 8 and 9: the cycle, and base",
+            b"\xff\x01\x01\x03\x00\x81\x80\x90\x94\x8e\x8a\x9b\xf3\x7c\xa4\x26\x9c\x31\x02\x00\x05\x80\x00\x00\x01\x2c\x00\x05\x01\x00\x00\x01\xf4",
+        ),
+        5 => show(
+            b"# 8 and 9: the cycle, and end",
+            b"\xff\x01\x01\x03\x00\x88\x27\xa4\x26\x81\x80\x90\x94\x8e\x8a\x9b\xf3\x7c\x02\x00\x05\x80\x00\x00\x01\x2c\x00\x05\x01\x00\x00\x01\xf4",
+        ),
+        6 => show(
+            b"# 8 and 10: the cycle, and an end before start",
+            b"\xff\x01\x01\x03\x00\x88\x27\xa4\x26\xa3\x26\x02\x00\x05\x80\x00\x00\x01\x2c\x00\x05\x01\x00\x00\x01\xf4",
+        ),
+        7 => show(
+            b"# 9 and 10: base, and an end before start",
+            b"\xff\x01\x01\xc0\x84\x3d\x00\x81\x80\x90\x94\x8e\x8a\x9b\xf3\x7c\xa4\x26\xa3\x26\x02\x00\x05\x80\x00\x00\x01\x2c\x00\x05\x01\x00\x00\x01\xf4",
+        ),
+        8 => show(
+            b"# 9 and 11: base, and a span too long",
+            b"\xff\x01\x01\xc0\x84\x3d\x00\x81\x80\x90\x94\x8e\x8a\x9b\xf3\x7c\xa4\x26\xa5\xba\xeb\xdc\x03\x02\x00\x05\x80\x00\x00\x01\x2c\x00\x05\x01\x00\x00\x01\xf4",
+        ),
+        9 => show(
+            b"# 9 and 11: end, and a span too long",
+            b"\xff\x01\x01\xc0\x84\x3d\x00\x88\x27\xa4\x26\x81\x80\x90\x94\x8e\x8a\x9b\xf3\x7c\x02\x00\x05\x80\x00\x00\x01\x2c\x00\x05\x01\x00\x00\x01\xf4",
+        ),
+        _ => false,
+    }
 }
 
-fn sheet_5() {
-    show(
-        b"# 4: an interval of 0",
-        &[
-            0xff,
-            0x01,
-            0x01,
-            0xc0,
-            0x84,
-            0x3d,
-            0x00,
-            0x88,
-            0x27,
-            0xa4,
-            0x26,
-            0x9c,
-            0x31,
-            0x02,
-            0x00,
-            0x05,
-            0x80,
-            0x00,
-            0x00,
-            0x00,
-            0x00,
-            0x00,
-            0x05,
-            0x01,
-            0x00,
-            0x00,
-            0x01,
-            0xf4,
-        ],
-    );
-}
-
-fn sheet_6() {
-    show(
-        b"# 5: a stated length of 0",
-        &[
-            0xff,
-            0x01,
-            0x01,
-            0xc0,
-            0x84,
-            0x3d,
-            0x00,
-            0x88,
-            0x27,
-            0xa4,
-            0x26,
-            0x9c,
-            0x31,
-            0x00,
-            0x00,
-            0x05,
-            0x80,
-            0x00,
-            0x00,
-            0x01,
-            0x2c,
-            0x00,
-            0x05,
-            0x01,
-            0x00,
-            0x00,
-            0x01,
-            0xf4,
-        ],
-    );
-}
-
-fn sheet_7() {
-    show(
-        b"# 5: an octet remains behind the list",
-        &[
-            0xff,
-            0x01,
-            0x01,
-            0xc0,
-            0x84,
-            0x3d,
-            0x00,
-            0x88,
-            0x27,
-            0xa4,
-            0x26,
-            0x9c,
-            0x31,
-            0x02,
-            0x00,
-            0x05,
-            0x80,
-            0x00,
-            0x00,
-            0x01,
-            0x2c,
-            0x00,
-            0x05,
-            0x01,
-            0x00,
-            0x00,
-            0x01,
-            0xf4,
-            0x00,
-        ],
-    );
-}
-
-fn sheet_8() {
-    show(
-        b"# 8: a cycle of 1/3 s",
-        &[
-            0xff,
-            0x01,
-            0x01,
-            0x03,
-            0x00,
-            0x88,
-            0x27,
-            0xa4,
-            0x26,
-            0x9c,
-            0x31,
-            0x02,
-            0x00,
-            0x05,
-            0x80,
-            0x00,
-            0x00,
-            0x01,
-            0x2c,
-            0x00,
-            0x05,
-            0x01,
-            0x00,
-            0x00,
-            0x01,
-            0xf4,
-        ],
-    );
-}
-
-fn sheet_9() {
-    show(
-        b"# 9: a start above the largest instant",
-        &[
-            0xff,
-            0x01,
-            0x01,
-            0xc0,
-            0x84,
-            0x3d,
-            0x00,
-            0x88,
-            0x27,
-            0x81,
-            0x80,
-            0x90,
-            0x94,
-            0x8e,
-            0x8a,
-            0x9b,
-            0xf3,
-            0x7c,
-            0x9c,
-            0x31,
-            0x02,
-            0x00,
-            0x05,
-            0x80,
-            0x00,
-            0x00,
-            0x01,
-            0x2c,
-            0x00,
-            0x05,
-            0x01,
-            0x00,
-            0x00,
-            0x01,
-            0xf4,
-        ],
-    );
-}
-
-fn sheet_10() {
-    show(
-        b"# 9: a base above the largest instant",
-        &[
-            0xff,
-            0x01,
-            0x01,
-            0xc0,
-            0x84,
-            0x3d,
-            0x00,
-            0x81,
-            0x80,
-            0x90,
-            0x94,
-            0x8e,
-            0x8a,
-            0x9b,
-            0xf3,
-            0x7c,
-            0xa4,
-            0x26,
-            0x9c,
-            0x31,
-            0x02,
-            0x00,
-            0x05,
-            0x80,
-            0x00,
-            0x00,
-            0x01,
-            0x2c,
-            0x00,
-            0x05,
-            0x01,
-            0x00,
-            0x00,
-            0x01,
-            0xf4,
-        ],
-    );
-}
-
-fn sheet_11() {
-    show(
-        b"# 9: an end above the largest instant",
-        &[
-            0xff,
-            0x01,
-            0x01,
-            0xc0,
-            0x84,
-            0x3d,
-            0x00,
-            0x88,
-            0x27,
-            0xa4,
-            0x26,
-            0x81,
-            0x80,
-            0x90,
-            0x94,
-            0x8e,
-            0x8a,
-            0x9b,
-            0xf3,
-            0x7c,
-            0x02,
-            0x00,
-            0x05,
-            0x80,
-            0x00,
-            0x00,
-            0x01,
-            0x2c,
-            0x00,
-            0x05,
-            0x01,
-            0x00,
-            0x00,
-            0x01,
-            0xf4,
-        ],
-    );
-}
-
-fn sheet_12() {
-    show(
-        b"# 10: an end before the start",
-        &[
-            0xff,
-            0x01,
-            0x01,
-            0xc0,
-            0x84,
-            0x3d,
-            0x00,
-            0x88,
-            0x27,
-            0xa4,
-            0x26,
-            0xa3,
-            0x26,
-            0x02,
-            0x00,
-            0x05,
-            0x80,
-            0x00,
-            0x00,
-            0x01,
-            0x2c,
-            0x00,
-            0x05,
-            0x01,
-            0x00,
-            0x00,
-            0x01,
-            0xf4,
-        ],
-    );
-}
-
-fn sheet_13() {
-    show(
-        b"# 11: a span of 1,000,000,001 ns",
-        &[
-            0xff,
-            0x01,
-            0x01,
-            0xc0,
-            0x84,
-            0x3d,
-            0x00,
-            0x88,
-            0x27,
-            0xa4,
-            0x26,
-            0xa5,
-            0xba,
-            0xeb,
-            0xdc,
-            0x03,
-            0x02,
-            0x00,
-            0x05,
-            0x80,
-            0x00,
-            0x00,
-            0x01,
-            0x2c,
-            0x00,
-            0x05,
-            0x01,
-            0x00,
-            0x00,
-            0x01,
-            0xf4,
-        ],
-    );
-}
-
-fn sheet_14() {
-    show(
-        b"# 15: the number 0 as 80 00",
-        &[
-            0xff,
-            0x01,
-            0xc0,
-            0x84,
-            0x3d,
-            0x80,
-            0x00,
-            0x00,
-            0x88,
-            0x27,
-            0xa4,
-            0x26,
-            0x9c,
-            0x31,
-            0x02,
-            0x00,
-            0x05,
-            0x80,
-            0x00,
-            0x00,
-            0x01,
-            0x2c,
-            0x00,
-            0x05,
-            0x01,
-            0x00,
-            0x00,
-            0x01,
-            0xf4,
-        ],
-    );
-}
-
-fn sheet_15() {
-    show(
-        b"# 15: a standing octet of 256",
-        &[
-            0x80,
-            0x02,
-            0x01,
-            0xc0,
-            0x84,
-            0x3d,
-            0x00,
-            0x88,
-            0x27,
-            0xa4,
-            0x26,
-            0x9c,
-            0x31,
-            0x02,
-            0x00,
-            0x05,
-            0x80,
-            0x00,
-            0x00,
-            0x01,
-            0x2c,
-            0x00,
-            0x05,
-            0x01,
-            0x00,
-            0x00,
-            0x01,
-            0xf4,
-        ],
-    );
-}
-
-fn sheet_16() {
-    show(
-        b"# 15: cut short inside the end",
-        &[
-            0xff,
-            0x01,
-            0x01,
-            0xc0,
-            0x84,
-            0x3d,
-            0x00,
-            0x88,
-            0x27,
-            0xa4,
-            0x26,
-        ],
-    );
-}
-
-fn sheet_17() {
-    show(
-        b"# 11 and 8: the cycle is refused first",
-        &[
-            0xff,
-            0x01,
-            0x01,
-            0x03,
-            0x00,
-            0x88,
-            0x27,
-            0xa4,
-            0x26,
-            0xa5,
-            0xba,
-            0xeb,
-            0xdc,
-            0x03,
-            0x02,
-            0x00,
-            0x05,
-            0x80,
-            0x00,
-            0x00,
-            0x01,
-            0x2c,
-            0x00,
-            0x05,
-            0x01,
-            0x00,
-            0x00,
-            0x01,
-            0xf4,
-        ],
-    );
+// The row k of the whole table, sixteen places for each of its four parts.
+fn row(k: u64) -> bool {
+    match k / 16 {
+        0 => accepted(k % 16),
+        1 => refused(k % 16),
+        2 => before_calls(k % 16),
+        _ => between_calls(k % 16),
+    }
 }
 
 // All of them.
 pub fn sheets() {
-    sheet_1();
-    sheet_2();
-    sheet_3();
-    sheet_4();
-    sheet_5();
-    sheet_6();
-    sheet_7();
-    sheet_8();
-    sheet_9();
-    sheet_10();
-    sheet_11();
-    sheet_12();
-    sheet_13();
-    sheet_14();
-    sheet_15();
-    sheet_16();
-    sheet_17();
+    let mut k: u64 = 0;
+    while k < 64 {
+        row(k);
+        k = k + 1;
+    }
 }

@@ -6,13 +6,22 @@ use mathlib.Core.List.{List}
 use Prim.Native.Nat.{ℕ}
 use native.Mathlib.Omega.{arith}
 use Rattle.numbers.specs.declared.Number.{Number}
+use Rattle.numbers.specs.declared.Number.the-variants.{Read, Malformed}
 use Rattle.numbers.specs.declared.Written.{Written}
 use Rattle.numbers.specs.declared.Written.the-variants.{Octets, Short}
-use Rattle.numbers.specs.Groups.{readNumber}
+use Rattle.numbers.specs.Groups.{readNumber, Reading, readingOf}
 use Rattle.numbers.specs.Writing.{Writing, writingOf, writeNumber}
 
-pub read-unique : (width : ℕ) (s : List ℕ) (at : ℕ) (x y : Number) → x ≡ readNumber width s at → y ≡ readNumber width s at → x ≡ y
-read-unique width s at x y p q = p ∙ sym q
+-- reading: number, value and place settle the answer
+pub number-told : (x y : Number) → readingOf x ≡ readingOf y → x ≡ y
+number-told (Read v m) (Read w n) e = let a : v ≡ w = ap (λ (r : Reading). r .value) e in let b : m ≡ n = ap (λ (r : Reading). r .next) e in λ i. Read (a i) (b i)
+number-told (Read v m) Malformed e = let z : _≡_ {A = ℕ} 0 15 = ap (λ (r : Reading). r .number) e in absurd (omega arith)
+number-told Malformed (Read w n) e = let z : _≡_ {A = ℕ} 15 0 = ap (λ (r : Reading). r .number) e in absurd (omega arith)
+number-told Malformed Malformed e = refl
+
+pub read-unique : (width : ℕ) (s : List ℕ) (at : ℕ) (x y : Number) → readingOf x ≡ readingOf (readNumber width s at)
+    → readingOf y ≡ readingOf (readNumber width s at) → x ≡ y
+read-unique width s at x y p q = number-told x y (p ∙ sym q)
 
 -- writing: number, count and buffer settle the answer and the memory
 

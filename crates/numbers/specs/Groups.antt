@@ -1,11 +1,13 @@
 -- Document 01, 'The sheet and the listing program': a number in groups of seven bits, lowest group first, top bit set on all octets but the last,
--- shortest form only, below 2 to its width: its octets, and what any octets hold at a place.
+-- shortest form only, below 2 to its width: its octets, and what any octets hold at a place. A number cut short, overlong or out of its width is 15.
 -- Assumes nothing.
 use mathlib.Core.Bool.{cond}
 use mathlib.Core.List.{List, [], _∷_}
 use Prim.Native.Nat.{ℕ, zero, suc, _+_, _-_, _*_, _/_, _%_, _^_}
 use lib.Dec.{ltb, leb, eqb}
 use lib.ListN.{drop}
+use Rattle.rule.specs.declared.Refusal.the-variants.{MalformedSheet}
+use Rattle.rule.specs.Refusals.{numberOf}
 use Rattle.numbers.specs.declared.Number.{Number}
 use Rattle.numbers.specs.declared.Number.the-variants.{Read, Malformed}
 
@@ -40,3 +42,14 @@ readUpTo largest s at = upTo largest (groupsAt (drop at s) at)
 -- the number of so many bits at a place
 abbrev pub readNumber : ℕ → List ℕ → ℕ → Number
 readNumber width s at = readUpTo (2 ^ width - 1) s at
+
+-- what is read: document 01's number (0: a number is read), its value, and the place after it; zeros where there is none
+pub record Reading : Type 0 where
+  pub number : ℕ
+  pub value : ℕ
+  pub next : ℕ
+
+-- the number and the values of an answer
+abbrev pub readingOf : Number → Reading
+readingOf (Read v next) = record { number = 0; value = v; next = next }
+readingOf Malformed = record { number = numberOf MalformedSheet; value = 0; next = 0 }

@@ -4,7 +4,7 @@ ghost use mathlib.Core.Path.{_≡_};
 ghost use mathlib.Core.List.{_++_};
 ghost use Prim.Native.Nat.{_+_, _/_, _≤_, _<_};
 ghost use lib.ListN.{length, drop};
-ghost use Rattle.numbers.specs.Groups.{octetsOf, joined, upTo, readUpTo, readNumber};
+ghost use Rattle.numbers.specs.Groups.{octetsOf, joined, upTo, readUpTo, readNumber, readingOf};
 ghost use Rattle.numbers.specs.Writing.{writeNumber, writingOf};
 
 // What reading finds: the number and the place after its last octet; or no number, for it is cut short, overlong or too large.
@@ -72,21 +72,21 @@ fn read_up_to(s: &[u8], at: usize, largest: u64) -> Number
 
 // Reads a number of 8 bits at a place.
 pub fn read8(s: &[u8], at: usize) -> Number
-    ensures { λ r. ⌜ r ≡ readNumber 8 (now (s .entry)) at ⌝ }
+    ensures { λ r. ⌜ readingOf r ≡ readingOf (readNumber 8 (now (s .entry)) at) ⌝ }
 {
     read_up_to(s, at, 255)
 }
 
 // Reads a number of 32 bits at a place.
 pub fn read32(s: &[u8], at: usize) -> Number
-    ensures { λ r. ⌜ r ≡ readNumber 32 (now (s .entry)) at ⌝ }
+    ensures { λ r. ⌜ readingOf r ≡ readingOf (readNumber 32 (now (s .entry)) at) ⌝ }
 {
     read_up_to(s, at, 4_294_967_295)
 }
 
 // Reads a number of 64 bits at a place.
 pub fn read64(s: &[u8], at: usize) -> Number
-    ensures { λ r. ⌜ r ≡ readNumber 64 (now (s .entry)) at ⌝ }
+    ensures { λ r. ⌜ readingOf r ≡ readingOf (readNumber 64 (now (s .entry)) at) ⌝ }
 {
     read_up_to(s, at, 18_446_744_073_709_551_615)
 }

@@ -3,6 +3,7 @@
 -- Assumes nothing.
 use mathlib.Core.Bool.{cond}
 use mathlib.Core.List.{List}
+use mathlib.Core.Option.{Option, none, some}
 use Prim.Native.Nat.{ℕ}
 use lib.Dec.{ltb}
 use lib.ListN.{length}
@@ -11,6 +12,7 @@ use Rattle.rule.specs.Refusals.{numberOf}
 use Rattle.numbers.specs.declared.Number.{Number}
 use Rattle.numbers.specs.declared.Number.the-variants as number
 use Rattle.numbers.specs.Groups.{readNumber}
+use Rattle.sheet.specs.declared.Sheet.{Sheet}
 use Rattle.sheet.specs.declared.SheetRead.{SheetRead}
 use Rattle.sheet.specs.declared.SheetRead.the-variants as sheet
 use Rattle.sheet.specs.declared.head.Head.{Head}
@@ -57,7 +59,12 @@ andRest s (head.Good h) = restOf s h
 unfoldable pub readSheet : List ℕ → SheetRead
 readSheet s = cond (ltb 1024 (length s)) sheet.Malformed (andRest s (headOf s))
 
--- document 01's number of an answer: 0 for a sheet that is read
-abbrev pub sheetNumber : SheetRead → ℕ
-sheetNumber sheet.Malformed = numberOf MalformedSheet
-sheetNumber (sheet.Good x) = 0
+-- what is read: document 01's number (0: a sheet is read), and the sheet's record, if there is one
+pub record Reading : Type 0 where
+  pub number : ℕ
+  pub contents : Option Sheet
+
+-- the number and the values of an answer
+abbrev pub readingOf : SheetRead → Reading
+readingOf sheet.Malformed = record { number = numberOf MalformedSheet; contents = none }
+readingOf (sheet.Good x) = record { number = 0; contents = some x }

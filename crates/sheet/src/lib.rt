@@ -1,6 +1,6 @@
 // The record of a sheet, read from any octets: eight numbers, and the place at which the list's octets begin. A malformed sheet has no record.
 ghost use mathlib.Core.Path.{_≡_};
-ghost use Rattle.sheet.specs.Sheet.{readSheet};
+ghost use Rattle.sheet.specs.Sheet.{readSheet, readingOf};
 use numbers::Number;
 
 mod head;
@@ -32,7 +32,7 @@ pub const LONGEST: usize = 1024;
 
 // Reads a sheet. Refused: 15.
 pub fn read(s: &[u8]) -> SheetRead
-    ensures { λ r. ⌜ r ≡ readSheet (now (s .entry)) ⌝ }
+    ensures { λ r. ⌜ readingOf r ≡ readingOf (readSheet (now (s .entry))) ⌝ }
 {
     if LONGEST < s.len() {
         return SheetRead::Malformed;

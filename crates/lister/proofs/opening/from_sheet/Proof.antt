@@ -2,6 +2,7 @@
 -- Assumes nothing.
 use mathlib.Core.Path.{sym, _∙_}
 use borrow.Author.Needs.{needs}
+use Rattle.sheet.proofs.Unique.{sheet-told}
 use Rattle.lister.proofs.Opened.{sheet-malformed, sheet-declined, sheet-accepted}
 use Rattle.lister.proofs.opening.from_sheet.Statement.{statement}
 use Rattle.lister.proofs.opening.from_sheet.Tie as tie
@@ -20,7 +21,7 @@ refused-requires c κs = search needs
 
 returns : tie.Need-returns
 returns c =
-    sheet-malformed (c .before .before .before .before .before .args .s .now) _ (sym (c .before .before .before .read .ensures) ∙ c .before .enum-told .given .1) (c .refused .ensures)
+    sheet-malformed (c .before .before .before .before .before .args .s .now) _ (sym (sheet-told _ _ (c .before .before .before .read .ensures)) ∙ c .before .enum-told .given .1) (c .refused .ensures)
 
 list-at-requires : tie.Need-list-at-requires
 list-at-requires c κs = search needs
@@ -39,12 +40,12 @@ refused-requires-2 c κs = search needs
 
 returns-2 : tie.Need-returns-2
 returns-2 c =
-    sheet-accepted (c .before .before .before .before .before .before .before .before .before .before .args .s .now) _ _ (sym (c .before .before .before .before .before .before .before .before .read .ensures) ∙ c .before .before .before .before .before .before .h .given .1) _ (c .before .before .before .before .list-at .ensures) (c .before .enum-told2 .given .1)
+    sheet-accepted (c .before .before .before .before .before .before .before .before .before .before .args .s .now) _ _ (sym (sheet-told _ _ (c .before .before .before .before .before .before .before .before .read .ensures)) ∙ c .before .before .before .before .before .before .h .given .1) _ (c .before .before .before .before .list-at .ensures) (c .before .enum-told2 .given .1)
     (c .with-list .ensures)
 
 returns-3 : tie.Need-returns-3
 returns-3 c =
-    sheet-declined (c .before .before .before .before .before .before .before .before .before .before .before .args .s .now) _ _ (sym (c .before .before .before .before .before .before .before .before .before .read .ensures) ∙ c .before .before .before .before .before .before .before .h .given .1) _ (c .before .before .before .before .before .list-at .ensures) _ _ (c .before .before .a .given .1)
+    sheet-declined (c .before .before .before .before .before .before .before .before .before .before .before .args .s .now) _ _ (sym (sheet-told _ _ (c .before .before .before .before .before .before .before .before .before .read .ensures)) ∙ c .before .before .before .before .before .before .before .h .given .1) _ (c .before .before .before .before .before .list-at .ensures) _ _ (c .before .before .a .given .1)
     (c .refused2 .ensures)
 
 pub from-sheet-spec : {M : Type 1} → statement M

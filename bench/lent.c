@@ -19,19 +19,19 @@ int main(int argc, char **argv) {
         return 2;
     const char *name = argv[1];
     const unsigned long times = strtoul(argv[2], 0, 10);
-    const bool first = strcmp(name, "transmit-first") == 0, slow = strcmp(name, "transmit-10") == 0;
+    const int first = strcmp(name, "transmit-first") == 0, slow = strcmp(name, "transmit-10") == 0;
     if (!first && !slow && strcmp(name, "transmit-none") != 0)
         return 2;
     uint64_t heads[KURFANDAZ_CLASSES], sum = 0;
-    port.clock = 5000;
-    port.on = port.operates = true;
-    port.standing = 0xFF;
-    port.operating.list.len = KURFANDAZ_PLACES;
-    port.operating.cycle = 16000;
-    port.operating.start = 5000;
+    port.gates.times.clock = 5000;
+    port.gates.times.on = port.gates.times.operates = 1;
+    port.gates.times.standing = 0xFF;
+    port.gates.times.len = KURFANDAZ_PLACES;
+    port.gates.times.cycle = 16000;
+    port.gates.times.start = 5000;
     for (unsigned i = 0; i < KURFANDAZ_PLACES; i++) {
-        port.operating.list.octets[i] = first ? counting(i) : closing(i, slow ? 0x80 : 0);
-        port.operating.list.intervals[i] = 125;
+        port.gates.octets[i] = first ? counting(i) : closing(i, slow ? 0x80 : 0);
+        port.gates.intervals[i] = 125;
     }
     for (unsigned k = 0; k < KURFANDAZ_CLASSES; k++)
         heads[k] = first ? 1500 : 2000;

@@ -68,7 +68,6 @@ static uint64_t number(struct line *l, uint64_t largest)
     return l->good ? value : 0;
 }
 
-static uint8_t mark(struct line *l) { return (uint8_t)number(l, 1); }
 static uint8_t number8(struct line *l) { return (uint8_t)number(l, UINT8_MAX); }
 static uint32_t number32(struct line *l) { return (uint32_t)number(l, UINT32_MAX); }
 static uint64_t number64(struct line *l) { return number(l, UINT64_MAX); }
@@ -312,26 +311,26 @@ static bool call_load(struct line *l)
     static struct port p;
     memset(&p, 0, sizeof p);
     p.clock = number64(l);
-    p.on = mark(l);
+    p.on = number8(l);
     p.standing = number8(l);
-    p.operating_present = mark(l);
+    p.operating_present = number8(l);
     p.operating.list.length = number64(l);
     p.operating.cycle = number64(l);
     p.operating.extension = number64(l);
     p.operating.start = number64(l);
     places(l, &p.operating.list);
-    p.waiting_present = mark(l);
+    p.waiting_present = number8(l);
     p.waiting.configuration.list.length = number64(l);
     p.waiting.configuration.cycle = number64(l);
     p.waiting.configuration.extension = number64(l);
     p.waiting.submitted = number64(l);
     p.waiting.configuration.start = number64(l);
     places(l, &p.waiting.configuration.list);
-    p.frame.present = mark(l);
+    p.frame.present = number8(l);
     p.frame.class = number8(l);
     p.frame.start = number64(l);
     p.frame.end = number64(l);
-    p.frame.counted = mark(l);
+    p.frame.counted = number8(l);
     p.errors = number64(l);
     for (unsigned k = 0; k < 8; k++)
         p.overruns[k] = number64(l);

@@ -51,11 +51,26 @@ static bool frame_good(const struct port_frame *f, uint64_t clock)
            f->end - f->start <= PORT_LONGEST_FRAME;
 }
 
+/* A mark is 0 or 1: no bit but the lowest is set in any of them. */
+static bool marks_good(const struct port *p)
+{
+    unsigned marks = p->on | p->operating_present | p->waiting_present | p->frame.present;
+#ifndef WRONG_COUNTED_MARK
+    marks |= p->frame.counted;
+#endif
+#ifdef WRONG_MARKS
+    marks = 0;
+#endif
+    return marks <= 1;
+}
+
 unsigned port_check(const struct port *p)
 {
     const struct port_configuration *o = &p->operating;
     const struct port_waiting *w = &p->waiting;
 
+    if (!marks_good(p))
+        return PORT_RECORD;
     if (p->clock > PORT_LAST_INSTANT || !frame_good(&p->frame, p->clock))
         return PORT_RECORD;
     if (!p->on && (p->operating_present || p->waiting_present))

@@ -57,7 +57,8 @@ struct port_waiting {
     uint64_t submitted;
 };
 
-/* Marks are 0 or 1; any other value is taken as 1. */
+/* A mark is one octet: 0 or 1. Any other value is held as it stands and makes
+ * the record malformed. */
 struct port_frame {
     uint8_t present;
     uint8_t class;

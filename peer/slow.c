@@ -46,8 +46,24 @@ static bool list_well_formed(const struct port_list *l)
     return true;
 }
 
+static bool is_mark(uint8_t octet)
+{
+    return octet == 0 || octet == 1;
+}
+
 unsigned port_check(const struct port *p)
 {
+    /* marks */
+    if (!is_mark(p->on))
+        return 14;
+    if (!is_mark(p->operating_present))
+        return 14;
+    if (!is_mark(p->waiting_present))
+        return 14;
+    if (!is_mark(p->frame.present))
+        return 14;
+    if (!is_mark(p->frame.counted))
+        return 14;
     /* clock within range */
     if (p->clock > PORT_LAST_INSTANT)
         return 14;

@@ -1,4 +1,4 @@
-/* The exported transmit, called from C: the layout of the record, and each outcome with every other octet of the port compared. Freestanding headers
+/* The exported transmit, called from C: each outcome, with every other octet of the port compared, also those between the fields. Freestanding headers
  * only; what it takes of the C library is declared here. */
 #include "port.h"
 
@@ -6,46 +6,6 @@ int printf(const char *format, ...);
 void *memcpy(void *to, const void *from, size_t n);
 void *memset(void *to, int octet, size_t n);
 int memcmp(const void *a, const void *b, size_t n);
-
-#define AT(type, field, place) _Static_assert(offsetof(struct kurfandaz_##type, field) == (place), #type "." #field)
-#define SIZE(type, size) _Static_assert(sizeof(struct kurfandaz_##type) == (size), #type)
-
-_Static_assert(sizeof(size_t) == 8 && sizeof(bool) == 1, "the widths that the record has");
-AT(gate_list, octets, 0);
-AT(gate_list, intervals, 128);
-AT(gate_list, len, 640);
-SIZE(gate_list, 648);
-AT(config, list, 0);
-AT(config, cycle, 648);
-AT(config, extension, 656);
-AT(config, start, 664);
-SIZE(config, 672);
-AT(waiting, config, 0);
-AT(waiting, since, 672);
-SIZE(waiting, 680);
-AT(frame, present, 0);
-AT(frame, class_, 1);
-AT(frame, start, 8);
-AT(frame, end, 16);
-AT(frame, counted, 24);
-SIZE(frame, 32);
-AT(port, frame, 0);
-AT(port, clock, 32);
-AT(port, on, 40);
-AT(port, standing, 41);
-AT(port, operates, 42);
-AT(port, operating, 48);
-AT(port, waits, 720);
-AT(port, waiting, 728);
-AT(port, errors, 1408);
-AT(port, overruns, 1416);
-SIZE(port, 1480);
-AT(answer, number, 0);
-AT(answer, chosen, 1);
-AT(answer, class_, 2);
-AT(answer, start, 8);
-AT(answer, end, 16);
-SIZE(answer, 24);
 
 static int passed, failed;
 
@@ -62,39 +22,47 @@ static void is(const char *what, uint64_t got, uint64_t want) {
 static struct kurfandaz_port with_list(uint64_t clock) {
     struct kurfandaz_port p;
     memset(&p, 0, sizeof p);
-    p.clock = clock;
-    p.on = true;
-    p.standing = 0xFF;
-    p.operates = true;
-    p.operating.list.octets[0] = 0x80;
-    p.operating.list.octets[1] = 0x01;
-    p.operating.list.intervals[0] = 300;
-    p.operating.list.intervals[1] = 500;
-    p.operating.list.len = 2;
-    p.operating.cycle = 1000;
-    p.operating.extension = 7;
-    p.operating.start = 5000;
-    p.errors = 11;
+    p.gates.times.clock = clock;
+    p.gates.times.on = 1;
+    p.gates.times.standing = 0xFF;
+    p.gates.times.operates = 1;
+    p.gates.octets[0] = 0x80;
+    p.gates.octets[1] = 0x01;
+    p.gates.intervals[0] = 300;
+    p.gates.intervals[1] = 500;
+    p.gates.times.len = 2;
+    p.gates.times.cycle = 1000;
+    p.gates.times.extension = 7;
+    p.gates.times.start = 5000;
+    p.gates.times.errors = 11;
     for (int k = 0; k < KURFANDAZ_CLASSES; k++) p.overruns[k] = 100 + k;
     return p;
 }
 
-/* The call, and what it must answer. A frame that was chosen is in the port, and everything behind the frame is as it was; else every octet is. */
+/* The octets between the fields: where each run begins, and where it stops. */
+static const size_t gaps[][2] = {
+    {offsetof(struct kurfandaz_port, frame.counted) + 1, offsetof(struct kurfandaz_port, frame.start)},
+    {offsetof(struct kurfandaz_port, gates.times.waits) + 1, offsetof(struct kurfandaz_port, gates.times.len)},
+};
+
+/* The call, and what it must answer. A frame that was chosen is in the port, and every octet that is not of its fields is as it was; else every octet is. */
 static void call(const char *what, struct kurfandaz_port *p, const uint64_t *heads, uint64_t speed, int number, int chosen, int class_, uint64_t end) {
     struct kurfandaz_port before;
+    for (size_t k = 0; k < sizeof gaps / sizeof *gaps; k++) memset((char *)p + gaps[k][0], 0xA5, gaps[k][1] - gaps[k][0]);
     memcpy(&before, p, sizeof before);
     struct kurfandaz_answer a = kurfandaz_transmit(p, heads, speed);
     is(what, a.number, number);
     is(what, a.chosen, chosen);
     is(what, a.class_, class_);
-    is(what, a.start, chosen ? before.clock : 0);
+    is(what, a.start, chosen ? before.gates.times.clock : 0);
     is(what, a.end, end);
     if (chosen) {
-        is(what, p->frame.present, true);
+        is(what, p->frame.present, 1);
         is(what, p->frame.class_, class_);
-        is(what, p->frame.start, before.clock);
+        is(what, p->frame.start, before.gates.times.clock);
         is(what, p->frame.end, end);
-        is(what, p->frame.counted, false);
+        is(what, p->frame.counted, 0);
+        is(what, memcmp((char *)p + gaps[0][0], (char *)&before + gaps[0][0], gaps[0][1] - gaps[0][0]) != 0, 0);
         is(what, memcmp((char *)p + sizeof p->frame, (char *)&before + sizeof p->frame, sizeof before - sizeof p->frame) != 0, 0);
     } else {
         is(what, memcmp(p, &before, sizeof before) != 0, 0);
@@ -116,13 +84,13 @@ int main(void) {
 
     /* the gates of a port that is off are those of its standing octet; the highest class of all */
     memset(&p, 0, sizeof p);
-    p.clock = KURFANDAZ_LARGEST_INSTANT;
-    p.standing = 0x7F;
+    p.gates.times.clock = KURFANDAZ_LARGEST_INSTANT;
+    p.gates.times.standing = 0x7F;
     call("the highest class whose gate is open", &p, all, 10, 0, 1, 6, KURFANDAZ_LARGEST_INSTANT + 57600);
 
     /* case 11: 5,760 ns never fit class 0 of A */
     memset(&p, 0, sizeof p);
-    p.standing = 0x01;
+    p.gates.times.standing = 0x01;
     call("64 octets at 100 Mbit/s", &p, zero, 100, 0, 1, 0, 5760);
     for (uint64_t t = 5000; t < 6000; t++) {
         p = with_list(t);
@@ -131,8 +99,8 @@ int main(void) {
 
     /* a cycle of 1 ns that is always open: the look ahead does not go round and round */
     p = with_list(UINT64_C(8999999999999999999));
-    p.operating.list.octets[0] = 0xFF;
-    p.operating.cycle = 1;
+    p.gates.octets[0] = 0xFF;
+    p.gates.times.cycle = 1;
     all[7] = 2000;
     call("2,000 octets at 10 Mbit/s over a cycle of 1 ns", &p, all, 10, 0, 1, 7, UINT64_C(8999999999999999999) + KURFANDAZ_LONGEST_SPAN);
 
@@ -140,8 +108,18 @@ int main(void) {
     p = with_list(5424);
     call("refused: a head length", &p, bad, 1000, KURFANDAZ_HEAD_LENGTH, 0, 0, 0);
     call("refused: the speed, before the head", &p, bad, 40, KURFANDAZ_SPEED, 0, 0, 0);
-    p.operating.list.intervals[1] = 0;
+    p.gates.intervals[1] = 0;
     call("refused: the record, before the speed", &p, bad, 40, KURFANDAZ_MALFORMED_PORT, 0, 0, 0);
+
+    /* a mark is 0 or 1: any other octet is refused, and stays */
+    for (int mark = 2; mark < 256; mark++) {
+        uint8_t *marks[] = {&p.frame.present, &p.frame.counted, &p.gates.times.on, &p.gates.times.operates, &p.gates.times.waits};
+        for (size_t k = 0; k < sizeof marks / sizeof *marks; k++) {
+            p = with_list(5424);
+            *marks[k] = (uint8_t)mark;
+            call("refused: a mark", &p, zero, 1000, KURFANDAZ_MALFORMED_PORT, 0, 0, 0);
+        }
+    }
 
     printf("%d passed, %d failed\n", passed, failed);
     return failed != 0;

@@ -1,6 +1,6 @@
 // The work of the cases, so many times each, and the sums that show that it was done: peer/README.md has them in a table.
 use gatelist::GateList;
-use gatelist::Written;
+use octets::Written;
 use port::Looked;
 use port::Port;
 use port::StepAnswer;
@@ -86,12 +86,12 @@ pub fn steps(p: Port, span: u64, times: u64) -> u64 {
     let mut sum: u64 = 0;
     let mut i: u64 = 0;
     while i < times {
-        let goal = wrapping_add_u64(q.clock, span);
+        let goal = wrapping_add_u64(q.gates.times.clock, span);
         let s = q.step(goal, &mut instants, &mut octets);
         q = s.port;
         let a = s.answer;
         sum = wrapping_add_u64(sum, tally(a, &instants, &octets));
-        sum = wrapping_add_u64(sum, q.clock);
+        sum = wrapping_add_u64(sum, q.gates.times.clock);
         i = i + 1;
     }
     sum
@@ -124,9 +124,9 @@ pub fn submits(p: Port, list: GateList, times: u64) -> u64 {
     while i < times {
         let a = q.submit(list, 128, 1_000_000, 0, 5000);
         q = a.port;
-        let g = q.operating;
-        sum = wrapping_add_u64(sum, octet_at(&g.list.octets, i));
-        sum = wrapping_add_u64(sum, g.start);
+        let x = q.gates.times;
+        sum = wrapping_add_u64(sum, octet_at(&q.gates.octets, i));
+        sum = wrapping_add_u64(sum, x.start);
         i = i + 1;
     }
     sum
@@ -151,7 +151,7 @@ pub fn writes(list: GateList, times: u64) -> u64 {
     let mut sum: u64 = 0;
     let mut i: u64 = 0;
     while i < times {
-        let w = list.write(&mut buffer);
+        let w = octets::write(list, &mut buffer);
         let n = written(w);
         let at = 7 * (i % 128) + 2;
         sum = wrapping_add_u64(sum, wide(buffer[at as usize]));
@@ -164,11 +164,11 @@ pub fn writes(list: GateList, times: u64) -> u64 {
 // Reads the list from its 896 octets.
 pub fn reads(list: GateList, times: u64) -> u64 {
     let mut buffer = [0u8; 896];
-    let w = list.write(&mut buffer);
+    let w = octets::write(list, &mut buffer);
     let mut sum = 0;
     let mut i: u64 = 0;
     while i < times {
-        let r = gatelist::read(&buffer, 128);
+        let r = octets::read(&buffer, 128);
         let l = r.list;
         let v = l.intervals;
         sum = wrapping_add_u64(sum, octet_at(&l.octets, i));

@@ -1,6 +1,6 @@
 // Document 01's bench cases 11 and 12, on list A: 80 for 300, 01 for 500, cycle 1,000, standing FF, installed at 5,000.
+use frames::Choice;
 use gatelist::GateList;
-use port::Choice;
 use port::Port;
 use port::StepAnswer;
 
@@ -50,7 +50,7 @@ fn time_now(p: Port) -> u64 {
 fn later(p: Port) -> Port {
     let mut instants = [0u64; 1];
     let mut octets = [0u8; 1];
-    let goal = std::num::wrapping_add_u64(p.clock, 1);
+    let goal = std::num::wrapping_add_u64(p.gates.times.clock, 1);
     let s = p.step(goal, &mut instants, &mut octets);
     s.port
 }
@@ -62,7 +62,11 @@ fn longest_time() -> u64 {
     let mut i: u64 = 0;
     while i < 2000 {
         p = later(p);
-        let ns = if p.clock < 5000 { 0 } else { time_now(p) };
+        let ns = if p.gates.times.clock < 5000 {
+            0
+        } else {
+            time_now(p)
+        };
         longest = if longest < ns { ns } else { longest };
         i = i + 1;
     }
@@ -116,7 +120,7 @@ fn with_one() {
     let s = p.step(6300, &mut instants, &mut octets);
     let a = s.answer;
     let n = count(a);
-    say(1, n, s.port.clock);
+    say(1, n, s.port.gates.times.clock);
 }
 
 // The same with none.
@@ -127,7 +131,7 @@ fn with_none() {
     let s = p.step(6300, &mut instants[..0], &mut octets[..0]);
     let a = s.answer;
     let n = count(a);
-    say(0, n, s.port.clock);
+    say(0, n, s.port.gates.times.clock);
 }
 
 // Case 12: a step from 4,900 to 6,300 with room 1 makes one change and stands at 5,299; with room 0 it stands at 4,999.

@@ -1,7 +1,7 @@
 // What a call answers, put into the lent buffer from its first place on, and what it leaves.
 use port::Acted;
-use port::Answer;
 use port::Port;
+use rule::Answer;
 use rule::Refusal;
 
 // After a line: the port, how many octets of the buffer are the answer, and whether the line was a call.

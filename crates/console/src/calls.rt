@@ -10,16 +10,16 @@ use crate::answer::say_count;
 use crate::answer::say_instants;
 use crate::answer::say_octets;
 use crate::answer::say_refused;
+use crate::coded::call_read;
+use crate::coded::call_write;
 use crate::lists::take_list;
-use crate::octets::call_read;
-use crate::octets::call_write;
 use crate::record::call_load;
 use crate::record::call_show;
-use port::Answer;
-use port::Choice;
+use frames::Choice;
 use port::Looked;
 use port::Port;
 use port::StepAnswer;
+use rule::Answer;
 use text::Scan;
 
 fn wide(x: u8) -> u64 {

@@ -90,8 +90,13 @@ pub fn say_places<'a>(
 }
 
 // K and its places, with the smallest K.
-pub fn say_list(out: &mut [u8], at: usize, l: GateList) -> usize {
-    let k = used_places(&l.octets, &l.intervals);
+pub fn say_list<'a>(
+    out: &mut [u8],
+    at: usize,
+    octets: &'a [u8; 128],
+    intervals: &'a [u32; 128],
+) -> usize {
+    let k = used_places(octets, intervals);
     let next = text::spaced(out, at, k as u64);
-    say_places(out, next, &l.octets, &l.intervals, k)
+    say_places(out, next, octets, intervals, k)
 }

@@ -4,9 +4,9 @@ ghost use lib.ListN.{length};
 
 mod answer;
 mod calls;
+mod coded;
 mod input;
 mod lists;
-mod octets;
 mod record;
 
 // Places for the input, and for an answer. The contracts give only their number, which lending them needs.

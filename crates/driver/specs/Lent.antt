@@ -6,13 +6,15 @@ use mathlib.Core.List.{List}
 use Prim.Native.Nat.{ℕ}
 use Rattle.rule.specs.Refusals.{numberOf}
 use Rattle.rule.specs.Acts.{transmit, performed}
+use Rattle.timetable.specs.declared.Timetable.{Timetable}
+use Rattle.frames.specs.declared.Frame as stored
+use Rattle.frames.specs.declared.Decided.{Decided}
+use Rattle.frames.specs.declared.Choice.{Choice}
+use Rattle.frames.specs.declared.Choice.the-variants.{Frame, Nothing, Refused}
+use Rattle.frames.specs.Decision.{choiceOf, Decides}
 use Rattle.port.specs.declared.Port.{Port}
-use Rattle.port.specs.declared.Choice.{Choice}
-use Rattle.port.specs.declared.Choice.the-variants.{Frame, Nothing, Refused}
 use Rattle.port.specs.Coding.{decode}
-use Rattle.port.specs.Answers.{choiceOf}
 use Rattle.port.specs.Acts.{declines, after}
-use Rattle.port.specs.Updates.{withFrame}
 use Rattle.driver.specs.declared.Answer.{Answer}
 use Rattle.driver.specs.declared.Framed.{Framed}
 
@@ -31,7 +33,9 @@ pub record Lends (heads : List ℕ) (speed : ℕ) (p : Port) (r : Answer) (q : P
   pub answer : r ≡ answerTo heads speed p
   pub port : q ≡ after (transmit heads speed) p
 
--- the answer with the frame to be stored: the port with that frame is the port after the act
-pub record Frames (heads : List ℕ) (speed : ℕ) (p : Port) (r : Framed) : Type 0 where
-  pub answer : r .answer ≡ answerTo heads speed p
-  pub port : withFrame (r .frame) (p .overruns) p ≡ after (transmit heads speed) p
+-- the answer with the frame to be stored, by a decision on a timetable and a frame
+pub record Frames (heads : List ℕ) (speed : ℕ) (g : Timetable) (f : stored.Frame) (r : Framed) : Type 0 where
+  pub decided : Decided
+  pub decides : Decides heads speed g f decided
+  pub answer : r .answer ≡ answerFor (decided .answer)
+  pub frame : r .frame ≡ decided .frame

@@ -2,9 +2,11 @@
 // every octet of the record as it is. Exported to C: include/port.h has the record and what a caller must keep.
 ghost use mathlib.Core.Path.{_≡_};
 ghost use Rattle.driver.specs.Lent.{answerFor, Frames, Lends};
-use port::Choice;
-use port::Frame;
+use frames::Choice;
+use frames::Frame;
+use frames::decide;
 use port::Port;
+use timetable::Times;
 
 // What a lent transmit answers, in numbers: that of the refusal, or 0; and whether a frame was chosen (1) or not (0), with its class, start and end. What
 // does not apply is 0.
@@ -51,24 +53,46 @@ fn numbered(choice: Choice) -> Answer
     }
 }
 
-// The choice by value.
-fn framed_of(p: Port, heads: [u64; 8], speed: u64) -> Framed
-    ensures { λ r. ⌜ Frames heads speed p r ⌝ }
+// The choice on a timetable whose lists stand in lent arrays, and a frame.
+fn framed_of<'a>(
+    x: Times,
+    os: &'a [u8; 128],
+    vs: &'a [u32; 128],
+    ws: &'a [u8; 128],
+    zs: &'a [u32; 128],
+    f: Frame,
+    heads: [u64; 8],
+    speed: u64,
+) -> Framed
+    ensures { λ r. ⌜ Frames heads speed (record { times = x; octets = now (os .entry); intervals = now (vs .entry); newoctets = now (ws .entry); newintervals = now (zs .entry) }) f r ⌝ }
 {
-    let t = p.transmit(heads, speed);
-    let choice = t.answer;
-    let port = t.port;
-    let frame = port.frame;
+    let d = decide(x, os, vs, ws, zs, f, heads, speed);
+    let choice = d.answer;
+    let frame = d.frame;
     let answer = numbered(choice);
     Framed { answer, frame }
 }
 
-// Chooses a frame by the heads of the eight queues (0: empty) and the speed in Mbit/s, and stores it in the lent port. Refused: 14, 13, 17, 12.
+// Chooses a frame by the heads of the eight queues (0: empty) and the speed in Mbit/s, and stores it in the lent port, field by field, so that no octet
+// between the fields is written. The lists are read where they lie. Refused: 14, 13, 17, 12.
 #[no_mangle]
 pub extern "C" fn kurfandaz_transmit(p: &mut Port, heads: &[u64; 8], speed: u64) -> Answer
     ensures { λ r. ⌜ Lends (now (heads .entry)) speed (now (p .entry)) r (now (p .exit)) ⌝ }
 {
-    let c = framed_of(*p, *heads, speed);
-    p.frame = c.frame;
+    let c = framed_of(
+        p.gates.times,
+        &p.gates.octets,
+        &p.gates.intervals,
+        &p.gates.newoctets,
+        &p.gates.newintervals,
+        p.frame,
+        *heads,
+        speed,
+    );
+    p.frame.present = c.frame.present;
+    p.frame.class = c.frame.class;
+    p.frame.counted = c.frame.counted;
+    p.frame.start = c.frame.start;
+    p.frame.end = c.frame.end;
     c.answer
 }

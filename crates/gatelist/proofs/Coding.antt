@@ -9,11 +9,11 @@ use native.Mathlib.Nat.{add-zero, add-suc, suc-add, zero-add}
 use native.Mathlib.Omega.{arith}
 use lib.Dec.{leb}
 use borrow.Author.Tests.{leb-true, leb-false}
-use lib.ListN.{length, getD, set, take, drop, replicate, length-set, length-take, length-drop, length-append, length-map, length-replicate, take-append-drop, List·getD-append, List·getD-map}
+use lib.ListN.{length, getD, set, take, drop, replicate, length-set, length-take, length-drop, length-append, length-map, take-append-drop, List·getD-append, List·getD-map}
 use lib.Seq.{set-at, take-all, length-take-le, ext-getD, getD-take, getD-append-add, getD-drop}
 use Rattle.rule.specs.Entries.{Entry}
 use Rattle.gatelist.specs.declared.GateList.{GateList}
-use Rattle.gatelist.specs.Coding.{listFrom, entryOf, listOf, padded, encodeList, emptyList, cleanedList, Places}
+use Rattle.gatelist.specs.Coding.{listFrom, entryOf, listOf, padded, encodeList, cleanedList, Places}
 
 -- lists made place by place
 
@@ -52,10 +52,6 @@ take-from l n h =
     getD-from (λ k. getD l k 0) 0 n i 0 b′ ∙ ap (λ k. getD l k 0) (zero-add i) ∙ sym (getD-take n l i 0 b′))
 
 -- 128 places
-
-pub length-padded : (l : List ℕ) → length l ≤ 128 → length (padded l) ≡ 128
-unfolding padded
-length-padded l h = length-append l (replicate (128 - length l) 0) ∙ omega (arith, length-replicate {A = ℕ} (128 - length l) 0)
 
 pub padded-in : (l : List ℕ) (k : ℕ) → k < length l → getD (padded l) k 0 ≡ getD l k 0
 unfolding padded

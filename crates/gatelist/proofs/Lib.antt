@@ -2,9 +2,4 @@ pub mod Coding
 pub mod Sound
 pub mod Lookup
 pub mod Gates
-pub mod Reading
-pub mod Writing
-pub mod Words
-pub mod RoundTrip
 pub mod Unique
-pub mod Cases

@@ -1,5 +1,5 @@
 -- The entry at an offset, by the sum of the intervals before it. In order: sums; the entry's number, inside a stretch and past all; what a loop over the
--- places has found; the stretch and the octet of the entry found.
+-- places has found; the stretch and the octet of the entry found; the octet at an offset, of any length of list.
 -- Assumes nothing.
 use mathlib.Core.Path.{_≡_, refl, ap, sym, subst, _∙_}
 use mathlib.Core.Bool.{Bool, true, false}
@@ -13,9 +13,10 @@ use borrow.Author.Tests.{ltb-true, ltb-false}
 use lib.ListN.{length, getD, List·getD-eq-default}
 use Rattle.rule.specs.Entries.{Entry, entryNo, octetAt}
 use Rattle.rule.proofs.Entries.{total, entryNo-in, entryNo-last}
-use Rattle.gatelist.specs.declared.GateList.{GateList}
-use Rattle.gatelist.specs.Coding.{listFrom, entryOf, entriesFrom, listOf}
+use Rattle.gatelist.specs.declared.Place.{Place}
+use Rattle.gatelist.specs.Coding.{listFrom, entryOf, entriesFrom}
 use Rattle.gatelist.specs.Lookup.{sumTo, placeAt}
+use Rattle.gatelist.specs.Promises.{FindsPlace, FindsOctet}
 use Rattle.gatelist.proofs.Coding.{length-from, from-add, from-more, getD-from, map-from}
 
 -- sums
@@ -90,7 +91,7 @@ module _ (is : List ℕ) (n i o start number : ℕ) (sum : start ≡ sumTo is i)
       (sym (ap (λ j. entryNo (entriesFrom [] is 0 j) o) q ∙ number-last [] is number o (omega arith)), s)
 
 pub found-place : (is : List ℕ) (n o number start v : ℕ) → Found is n o number start → v ≡ getD is number 0
-    → record { number = number; start = start; end = start + v } ≡ placeAt is n o
+    → FindsPlace is n o (record { number = number; start = start; end = start + v })
 unfolding placeAt
 found-place is n o number start v f e =
     let s : start ≡ sumTo is (entryNo (entriesFrom [] is 0 n) o) = f .1 ∙ ap (sumTo is) (f .0) in
@@ -140,14 +141,20 @@ module _ (os is : List ℕ) where
       ap (λ l. getD l i 0) (map-from (λ (e : Entry). e .octet) (entryOf os is) 0 n)
       ∙ getD-from (λ k. getD os k 0) 0 n i 0 (number-holds n o h .one) ∙ ap (λ k. getD os k 0) (zero-add i)
 
-module _ (l : GateList) (o : ℕ) (some : 1 ≤ l .len) where
-  -- the place found is the one that holds, whatever the octets
-  pub place-holds : Holds (l .intervals) (l .len) o (placeAt (l .intervals) (l .len) o .number)
-  unfolding placeAt
-  place-holds = number-holds [] (l .intervals) (l .len) o some
+-- the octet at an offset, a law for each way to it
+module _ (os is : List ℕ) (n o : ℕ) where
+  pub octet-none : n ≡ 0 → FindsOctet os is n o 0
+  unfolding octetAt listFrom
+  octet-none e = sym (ap (λ m. octetAt (entriesFrom os is 0 m) o) e)
 
-  pub place-number : entryNo (listOf l) o ≡ placeAt (l .intervals) (l .len) o .number
-  place-number = holds-number (l .octets) (l .intervals) (l .len) o _ place-holds
+  module _ (some : 1 ≤ n) (p : Place) (found : FindsPlace is n o p) where
+    -- the place found is the entry's, whatever the octets
+    place-number : entryNo (entriesFrom os is 0 n) o ≡ p .number
+    unfolding placeAt
+    place-number = holds-number os is n o _ (number-holds [] is n o some) ∙ sym (ap (λ (q : Place). q .number) found)
 
-  pub place-octet : octetAt (listOf l) o ≡ getD (l .octets) (placeAt (l .intervals) (l .len) o .number) 0
-  place-octet = number-octet (l .octets) (l .intervals) (l .len) o some ∙ ap (λ i. getD (l .octets) i 0) place-number
+    pub octet-found : FindsOctet os is n o (getD os (p .number) 0)
+    octet-found = sym (number-octet os is n o some ∙ ap (λ i. getD os i 0) place-number)
+
+    pub octet-beyond : length os ≤ p .number → FindsOctet os is n o 0
+    octet-beyond h = sym (List·getD-eq-default os 0 h) ∙ octet-found

@@ -4,7 +4,7 @@
 use mathlib.Core.Path.{_≡_, refl, ap, sym, _∙_}
 use mathlib.Core.Bool.{Bool, true, false, cond, not, _&&_, _||_, true≢false}
 use mathlib.Core.Logic.{_⊎_, inl, inr}
-use mathlib.Core.List.{List, map}
+use mathlib.Core.List.{List, [], map}
 use Prim.Native.Nat.{ℕ, zero, suc, _+_, _-_, _≤_, _<_, min}
 use native.Mathlib.Nat.{add-zero, add-suc, suc-add, zero-add, eq-or-lt-of-le, lt-of-not-le}
 use native.Mathlib.Numerals.{add-one}
@@ -16,8 +16,9 @@ use Rattle.rule.specs.Entries.{Entry}
 use Rattle.rule.proofs.Orders.{both}
 use Rattle.rule.specs.Orders.{lengthOffered, hasZeroInterval}
 use Rattle.gatelist.specs.declared.GateList.{GateList}
-use Rattle.gatelist.specs.Coding.{listFrom, entryOf, listOf, padded, encodeList, emptyList, cleanedList, Places}
+use Rattle.gatelist.specs.Coding.{listFrom, entryOf, entriesFrom, listOf, padded, encodeList, emptyList, cleanedList, Places}
 use Rattle.gatelist.specs.Sound.{everyBelow, placeOk, placesOk, listOk, listNone, listFormed, usedOk, restOk}
+use Rattle.gatelist.specs.Promises.{FindsZero}
 use Rattle.gatelist.proofs.Coding.{list-decoded, padded-out, cleaned-encoded, cleaned-same}
 
 -- tests
@@ -170,29 +171,38 @@ module _ (f : ℕ → Entry) where
       (free-zero (suc i) n (λ k h z. u (suc k) (omega arith) (ap (λ j. f j .interval) (add-suc i k ∙ sym (suc-add i k)) ∙ z)))
 
 -- the 128 places say it of any length: a place beyond them reads as 0
-pub zero-found : (l : GateList) → Places l → (good : Bool) → good ≡ everyBelow (usedOk (l .intervals) (l .len)) 128
-    → not (leb (l .len) 128 && good) ≡ hasZeroInterval (listOf l)
+pub zero-found : (is : List ℕ) (n : ℕ) → length is ≡ 128 → (good : Bool) → good ≡ everyBelow (usedOk is n) 128 → FindsZero is n (not (leb n 128 && good))
 unfolding usedOk
-zero-found l p good e = same-false _ _ there back
+zero-found is n p good e = same-false _ _ there back
   where
-    there : not (leb (l .len) 128 && good) ≡ false → hasZeroInterval (listOf l) ≡ false
+    there : not (leb n 128 && good) ≡ false → hasZeroInterval (entriesFrom [] is 0 n) ≡ false
     there q =
-        let z = both (leb (l .len) 128) good (not-false _ q) in
-        let few : l .len ≤ 128 = leb-true (l .len) 128 (z .0) in
-        free-zero (entryOf (l .octets) (l .intervals)) 0 (l .len)
-        (λ k h y. let t = every-at (usedOk (l .intervals) (l .len)) 128 k (sym e ∙ z .1) (omega arith) in
-        true≢false (sym t ∙ simp (lt-ltb k (l .len) h, eq-eqb (getD (l .intervals) k 0) 0 (ap (λ j. getD (l .intervals) j 0) (sym (zero-add k)) ∙ y))))
+        let z = both (leb n 128) good (not-false _ q) in
+        let few : n ≤ 128 = leb-true n 128 (z .0) in
+        free-zero (entryOf [] is) 0 n
+        (λ k h y. let t = every-at (usedOk is n) 128 k (sym e ∙ z .1) (omega arith) in
+        true≢false (sym t ∙ simp (lt-ltb k n h, eq-eqb (getD is k 0) 0 (ap (λ j. getD is j 0) (sym (zero-add k)) ∙ y))))
 
-    used : (k : ℕ) (b : Bool) → ltb k (l .len) ≡ b → (k < l .len → getD (l .intervals) (0 + k) 0 ≡ 0 → ⊥) → not (b && eqb (getD (l .intervals) k 0) 0) ≡ true
-    used k true q u = rw (ne-eqb (getD (l .intervals) k 0) 0 (λ z. u (ltb-true k (l .len) q) (ap (λ j. getD (l .intervals) j 0) (zero-add k) ∙ z)))
+    used : (k : ℕ) (b : Bool) → ltb k n ≡ b → (k < n → getD is (0 + k) 0 ≡ 0 → ⊥) → not (b && eqb (getD is k 0) 0) ≡ true
+    used k true q u = rw (ne-eqb (getD is k 0) 0 (λ z. u (ltb-true k n q) (ap (λ j. getD is j 0) (zero-add k) ∙ z)))
     used k false q u = refl
 
-    back : hasZeroInterval (listOf l) ≡ false → not (leb (l .len) 128 && good) ≡ false
+    back : hasZeroInterval (entriesFrom [] is 0 n) ≡ false → not (leb n 128 && good) ≡ false
     back q =
-        let u = zero-free (entryOf (l .octets) (l .intervals)) 0 (l .len) q in
-        let few : l .len < 129 = lt-of-not-le (λ m. u 128 (omega arith) (List·getD-eq-default (l .intervals) 0 (omega (arith, p .intervals)))) in
-        let g : good ≡ true = e ∙ every-all (usedOk (l .intervals) (l .len)) 128 (λ k h. used k (ltb k (l .len)) refl (u k)) in
-        simp (le-leb (l .len) 128 (omega arith), g)
+        let u = zero-free (entryOf [] is) 0 n q in
+        let few : n < 129 = lt-of-not-le (λ m. u 128 (omega arith) (List·getD-eq-default is 0 (omega (arith, p)))) in
+        let g : good ≡ true = e ∙ every-all (usedOk is n) 128 (λ k h. used k (ltb k n) refl (u k)) in
+        simp (le-leb n 128 (omega arith), g)
+
+-- the octets have no part in it
+zero-octets : (os ps is : List ℕ) (i n : ℕ) → hasZeroInterval (entriesFrom os is i n) ≡ hasZeroInterval (entriesFrom ps is i n)
+unfolding hasZeroInterval listFrom
+zero-octets os ps is i zero = refl
+zero-octets os ps is i (suc n) = ap (λ b. cond (eqb (getD is i 0) 0) true b) (zero-octets os ps is (suc i) n)
+
+-- what is found of the intervals holds of every list that has them
+pub zero-listed : (os is : List ℕ) (n : ℕ) (r : Bool) → FindsZero is n r → r ≡ hasZeroInterval (entriesFrom os is 0 n)
+zero-listed os is n r e = e ∙ zero-octets [] os is 0 n
 
 -- a present list, and an absent one
 

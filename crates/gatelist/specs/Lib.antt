@@ -1,5 +1,4 @@
 pub mod Coding
 pub mod Sound
 pub mod Lookup
-pub mod Octets
-pub mod Parts
+pub mod Promises

@@ -1,20 +1,11 @@
-// The gate control list of a port: its record of 128 places, the checks of a record, the entry at an offset of the cycle, one class's gate, and the list's
-// octets, read and written. Every function takes any record, any octets, any buffer. A refused reading hands back the list of all zeros; a refused writing
-// leaves the buffer as it was.
+// The gate control list of a port: its record of 128 places, the checks of a record, the entry and the octet at an offset of the cycle, one class's gate.
+// Every function takes any record, any length, any offset. Nothing is refused.
 ghost use mathlib.Core.Path.{_≡_};
 ghost use Prim.Native.Nat.{_<_, min};
 ghost use lib.ListN.{length};
-ghost use Rattle.rule.specs.Gates.{isOpen};
-ghost use Rattle.rule.specs.Orders.{hasZeroInterval};
-ghost use Rattle.gatelist.specs.Coding.{listOf, emptyList, cleanedList};
 ghost use Rattle.gatelist.specs.Sound.{everyBelow, placeOk, usedOk, restOk, Checked};
-ghost use Rattle.gatelist.specs.Lookup.{placeAt, IntervalAt};
-ghost use Rattle.gatelist.specs.Octets.{readList, readingOf, writeList, writingOf};
-use rule::Refusal;
-
-mod entry;
-
-use entry::EntryRead;
+ghost use Rattle.gatelist.specs.Lookup.{IntervalAt};
+ghost use Rattle.gatelist.specs.Promises.{Widens, FindsZero, Empty, Cleans, ShowsGate, FindsPlace, FindsOctet};
 
 // A list: entry k has the gate octet octets[k] and the interval intervals[k] in nanoseconds, for k below len. The other places are unused.
 #[repr(C)]
@@ -32,27 +23,9 @@ pub struct Place {
     pub end: u64,
 }
 
-// What reading answers: the list is taken, or the refusal and the place of the octet that it concerns.
-pub enum ReadAnswer {
-    Accepted,
-    Declined(Refusal, usize),
-}
-
-// What reading hands back. Of a refused reading the list is all zeros.
-pub struct ListRead {
-    pub answer: ReadAnswer,
-    pub list: GateList,
-}
-
-// What writing answers: how many octets it wrote, or the refusal.
-pub enum Written {
-    Octets(usize),
-    Unwritten(Refusal),
-}
-
 // An interval as a time.
-fn wide(x: u32) -> u64
-    ensures { λ r. ⌜ (r ≡ x) × (r < 4294967296) ⌝ }
+pub fn wide(x: u32) -> u64
+    ensures { λ r. ⌜ Widens x r ⌝ }
 {
     x as u64
 }
@@ -133,13 +106,22 @@ pub fn formed<'a>(octets: &'a [u8; 128], intervals: &'a [u32; 128], len: usize, 
     (len == 0) & good
 }
 
+// A used interval is 0. A place beyond the 128 counts as 0.
+pub fn has_zero(intervals: &[u32; 128], len: usize) -> bool
+    ensures { λ r. ⌜ FindsZero (now (intervals .entry)) len r ⌝ }
+{
+    sized(*intervals);
+    let good = intervals_ok(intervals, len);
+    !((len <= GateList::MAX) & good)
+}
+
 impl GateList {
     // The places of a list record, SupportedListMax.
     pub const MAX: usize = 128;
 
     // The list of all zeros.
     pub fn empty() -> Self
-        ensures { λ r. ⌜ r ≡ emptyList ⌝ }
+        ensures { λ r. ⌜ Empty r ⌝ }
     {
         Self {
             octets: [0u8; 128],
@@ -148,18 +130,9 @@ impl GateList {
         }
     }
 
-    // A used interval is 0. A place beyond the 128 counts as 0.
-    pub fn has_zero(self) -> bool
-        ensures { λ r. ⌜ r ≡ hasZeroInterval (listOf self) ⌝ }
-    {
-        let n = self.len;
-        let good = intervals_ok(&self.intervals, n);
-        !((n <= GateList::MAX) & good)
-    }
-
     // The same list, with its unused places set to zero.
     pub fn cleaned(self) -> GateList
-        ensures { λ r. ⌜ r ≡ cleanedList self ⌝ }
+        ensures { λ r. ⌜ Cleans self r ⌝ }
     {
         let n = self.len;
         let o = self.octets;
@@ -181,7 +154,7 @@ impl GateList {
 
 // One class's gate in an octet: class 7 is the most significant bit, 1 is open. There is no gate of a class above 7: closed.
 pub fn gate(octet: u8, class: u8) -> bool
-    ensures { λ r. ⌜ r ≡ isOpen octet class ⌝ }
+    ensures { λ r. ⌜ ShowsGate octet class r ⌝ }
 {
     if 7 < class {
         return false;
@@ -202,7 +175,7 @@ fn interval_at(intervals: &[u32; 128], i: usize) -> u64
 
 // The entry of a list of len intervals whose stretch contains an offset: the first whose end lies past it, or else the last.
 pub fn entry_at(intervals: &[u32; 128], len: usize, offset: u64) -> Place
-    ensures { λ r. ⌜ r ≡ placeAt (now (intervals .entry)) len offset ⌝ }
+    ensures { λ r. ⌜ FindsPlace (now (intervals .entry)) len offset r ⌝ }
 {
     let mut start: u64 = 0;
     let mut i: usize = 0;
@@ -224,82 +197,18 @@ pub fn entry_at(intervals: &[u32; 128], len: usize, offset: u64) -> Place
     Place { number, start, end }
 }
 
-// A refused reading.
-fn declined(r: Refusal, place: usize) -> ListRead
-    ensures { λ x. ⌜ x ≡ record { answer = ReadAnswer.Declined r place; list = emptyList } ⌝ }
+// The octet of that entry. A list of no entry has 0, and so has a place beyond the 128.
+pub fn octet_at<'a>(octets: &'a [u8; 128], intervals: &'a [u32; 128], len: usize, offset: u64) -> u8
+    ensures { λ r. ⌜ FindsOctet (now (octets .entry)) (now (intervals .entry)) len offset r ⌝ }
 {
-    ListRead {
-        answer: ReadAnswer::Declined(r, place),
-        list: GateList::empty(),
+    if len == 0 {
+        return 0;
     }
-}
-
-// Reads a list of the stated length from its octets.
-pub fn read(octets: &[u8], stated: u64) -> ListRead
-    ensures { λ r. ⌜ readingOf r ≡ readList (now (octets .entry)) stated ⌝ }
-{
-    if stated < 1 {
-        return declined(Refusal::ListLength, 0);
+    let place = entry_at(intervals, len, offset);
+    let i = place.number;
+    if GateList::MAX <= i {
+        sized_octets(*octets);
+        return 0;
     }
-    if (GateList::MAX as u64) < stated {
-        return declined(Refusal::ListLength, 0);
-    }
-    let n = stated as usize;
-    let mut gates = [0u8; 128];
-    let mut intervals = [0u32; 128];
-    let mut i: usize = 0;
-    while i < n {
-        let at = 7 * i;
-        match entry::read_entry(octets, at) {
-            EntryRead::Good(o, v) => {
-                gates[i] = o;
-                intervals[i] = v;
-            }
-            EntryRead::Bad(r) => {
-                return declined(r, at);
-            }
-        }
-        i = i + 1;
-    }
-    let end = 7 * n;
-    if end < octets.len() {
-        return declined(Refusal::ListLength, end);
-    }
-    ListRead {
-        answer: ReadAnswer::Accepted,
-        list: GateList {
-            octets: gates,
-            intervals,
-            len: n,
-        },
-    }
-}
-
-impl GateList {
-    // Writes the list's octets to the front of a buffer. A refusal leaves the buffer as it was.
-    pub fn write(self, buffer: &mut [u8]) -> Written
-        ensures { λ r. ⌜ writingOf r (now (buffer .exit)) ≡ writeList self (now (buffer .entry)) ⌝ }
-    {
-        let n = self.len;
-        let o = self.octets;
-        let v = self.intervals;
-        if n < 1 {
-            return Written::Unwritten(Refusal::ListLength);
-        }
-        if GateList::MAX < n {
-            return Written::Unwritten(Refusal::ListLength);
-        }
-        if !intervals_ok(&v, n) {
-            return Written::Unwritten(Refusal::ZeroInterval);
-        }
-        let count = 7 * n;
-        if buffer.len() < count {
-            return Written::Unwritten(Refusal::BufferShort);
-        }
-        for i in 0..n {
-            let at = 7 * i;
-            entry::write_entry(&mut buffer[at..], o[i], v[i]);
-        }
-        Written::Octets(count)
-    }
+    octets[i]
 }

@@ -3,6 +3,7 @@
 -- instants, the same are accepted (`same-tries`).
 -- Assumes nothing.
 use mathlib.Core.Path.{_≡_, ap, sym, _∙_, subst⁻¹}
+use mathlib.Core.Bool.{cond}
 use mathlib.Core.List.{List, [], _∷_, _++_, reverse}
 use mathlib.Core.Option.{none}
 use Prim.Native.Nat.{ℕ, _+_, _-_, _≤_, min}
@@ -10,68 +11,79 @@ use native.Mathlib.Omega.{arith}
 use lib.ListN.{length}
 use borrow.Author.Tests.{le-ltb}
 use Rattle.rule.specs.Limits.{largestInstant}
+use Rattle.rule.specs.Refusals.{accepted, numbered}
 use Rattle.rule.specs.Port as model
-use Rattle.rule.specs.Port.{newPort, shown, shownNow}
+use Rattle.rule.specs.Timetable.{shown, shownNow}
+use Rattle.rule.specs.Port.{newPort}
 use Rattle.rule.specs.Acts as rule
 use Rattle.rule.specs.Orders.{lookOrder, newOrder}
 use Rattle.rule.specs.Machine as machine
 use Rattle.rule.specs.Machine.{Outcome, ticks, elapsed, replay}
-use Rattle.rule.specs.PortMachine.{machine}
-use Rattle.rule.specs.History.{ruleOctet, ruleChanges}
-use Rattle.rule.specs.Sound.{Sound}
+use Rattle.rule.specs.Machines.{machine}
+use Rattle.rule.specs.History.{ruleChanges}
+use Rattle.rule.specs.Frames.{gateActs, octetOf}
+use Rattle.rule.proofs.Soundness.{Sound}
 use Rattle.rule.proofs.Cut.{clock-ticks}
+use Rattle.rule.proofs.Laws.{lawful}
 use Rattle.rule.proofs.Shown.{now-ticks}
+use Rattle.rule.proofs.Gated.{ticks-gates}
 use Rattle.rule.proofs.Sound.{sound-new}
 use Rattle.rule.proofs.Demand3 as port
+use Rattle.timetable.specs.Coding as timetable
 use Rattle.port.specs.declared.Port.{Port}
 use Rattle.port.specs.declared.Acted.{Acted}
 use Rattle.port.specs.declared.Looked.{Looked}
 use Rattle.port.specs.declared.Stepped.{Stepped}
 use Rattle.port.specs.declared.Looked.the-variants as looked
 use Rattle.port.specs.Coding.{decode, encode}
-use Rattle.port.specs.Answers.{lookedOf}
 use Rattle.port.specs.Acts.{lookDeclines, Looks, Makes}
 use Rattle.port.specs.Step.{Steps}
-use Rattle.port.proofs.Coding.{decode-encode, formed}
+use Rattle.port.proofs.Coding.{decode-encode, formed, clock-encode}
+use Rattle.port.proofs.Numbers.{looked-told}
 use Rattle.history.specs.Calls.{Call, run, tried}
 use Rattle.history.specs.Outcomes.{Event, callsOf, Kept, outcome}
 use Rattle.history.specs.Demand.{Idle, Demand}
-use Rattle.history.proofs.Modelled.{clock-encode, afterStep-is}
+use Rattle.history.proofs.Modelled.{afterStep-is}
 use Rattle.history.proofs.Runs.{machineCalls, recorded, run-is, tried-is, sound-run}
 use Rattle.history.proofs.Given.{outcome-is}
 use Rattle.history.proofs.Idle.{Whole, whole-encode, unwritten, idle-outcome, idle-between}
 
 -- what a look and a step show of a sound port that shows f from its clock on
 
-module _ (m : model.Port) (s : Sound m) (f : ℕ → ℕ) (g : (n : ℕ) → shownNow (ticks machine n m) ≡ f (m .clock + n)) where
-  shows-on : (t : ℕ) → m .clock ≤ t → shown m t ≡ f t
+module _ (m : model.Port) (s : Sound m) (f : ℕ → ℕ) (g : (n : ℕ) → shownNow (ticks machine n m .gates) ≡ f (m .gates .clock + n)) where
+  shows-on : (t : ℕ) → m .gates .clock ≤ t → shown (m .gates) t ≡ f t
   shows-on t h =
-      let e : m .clock + (t - m .clock) ≡ t = omega arith in
-      ap (shown m) (sym e) ∙ sym (now-ticks (t - m .clock) m) ∙ g (t - m .clock) ∙ ap f e
+      let e : m .gates .clock + (t - m .gates .clock) ≡ t = omega arith in
+      ap (shown (m .gates)) (sym e) ∙ sym (now-ticks (t - m .gates .clock) (m .gates)) ∙ ap shownNow (sym (ticks-gates (t - m .gates .clock) m))
+      ∙ g (t - m .gates .clock)
+      ∙ ap f e
 
-  record-shows : (t : ℕ) → encode m .clock ≤ t → shown (decode (encode m)) t ≡ f t
-  record-shows t h = ap (λ d. shown d t) (decode-encode m) ∙ shows-on t (rw (clock-encode m) at h)
+  record-shows : (t : ℕ) → encode m .gates .times .clock ≤ t → shown (decode (encode m) .gates) t ≡ f t
+  record-shows t h = ap (λ d. shown (d .gates) t) (decode-encode m) ∙ shows-on t (rw (clock-encode m) at h)
 
-  look-taken : (t : ℕ) → m .clock ≤ t → t ≤ largestInstant → lookDeclines t (encode m) ≡ none
+  look-taken : (t : ℕ) → m .gates .clock ≤ t → t ≤ largestInstant → lookDeclines t (encode m) ≡ none
   unfolding lookDeclines lookOrder
-  look-taken t h l = rw (formed m s, decode-encode m, le-ltb largestInstant t l, le-ltb t (m .clock) h)
+  look-taken t h l = rw (formed m s, decode-encode m, le-ltb largestInstant t l, le-ltb t (m .gates .clock) h)
 
-  record-looks : (t : ℕ) → encode m .clock ≤ t → t ≤ largestInstant → (r : Looked) → Looks (encode m) t r → r ≡ looked.Octet (f t)
+  record-looks : (t : ℕ) → encode m .gates .times .clock ≤ t → t ≤ largestInstant → (r : Looked) → Looks (encode m) t r → r ≡ looked.Octet (f t)
   record-looks t h l r k =
-      k ∙ ap (λ d. lookedOf d (shown (decode (encode m)) t)) (look-taken t (rw (clock-encode m) at h) l) ∙ ap looked.Octet (record-shows t h)
+      let e = look-taken t (rw (clock-encode m) at h) l in
+      looked-told r (looked.Octet (f t)) (k .number ∙ ap numbered e)
+      (k .octet ∙ ap (λ d. cond (accepted d) (shown (decode (encode m) .gates) t) 0) e ∙ record-shows t h)
 
-  now-shown : (n : ℕ) → shown (ticks machine n m) (ticks machine n m .clock) ≡ f (m .clock + n)
+  now-shown : (n : ℕ) → shown (ticks machine n m .gates) (ticks machine n m .gates .clock) ≡ f (m .gates .clock + n)
   unfolding shownNow
   now-shown n = g n
 
   record-comes : (goal : ℕ) (at at′ os os′ : List ℕ) (r : Stepped) → Steps (encode m) goal at at′ os os′ r
-      → shown (decode (r .port)) (r .port .clock) ≡ f (r .port .clock)
+      → shown (decode (r .port) .gates) (r .port .gates .times .clock) ≡ f (r .port .gates .times .clock)
   record-comes goal at at′ os os′ r k =
       let n : ℕ = elapsed machine (machine.step goal (min (length at) (length os))) m in
       let e : r .port ≡ encode (ticks machine n m) = k .port ∙ afterStep-is m s goal (min (length at) (length os)) in
-      let c : r .port .clock ≡ m .clock + n = ap (λ (q : Port). q .clock) e ∙ clock-encode (ticks machine n m) ∙ clock-ticks machine n m in
-      ap (λ (q : Port). shown (decode q) (q .clock)) e
-      ∙ (λ i. shown (decode-encode (ticks machine n m) i) (clock-encode (ticks machine n m) i))
+      let c : r .port .gates .times .clock ≡ m .gates .clock + n =
+      ap (λ (q : Port). q .gates .times .clock) e ∙ clock-encode (ticks machine n m) ∙ clock-ticks machine lawful n m in
+      ap (λ (q : Port). shown (decode q .gates) (q .gates .times .clock)) e
+      ∙ (λ i. shown (decode-encode (ticks machine n m) i .gates) (clock-encode (ticks machine n m) i))
       ∙ now-shown n
       ∙ sym (ap f c)
 
@@ -79,7 +91,7 @@ module _ (m : model.Port) (s : Sound m) (f : ℕ → ℕ) (g : (n : ℕ) → sho
 
 recorded-demand : (t₀ s₀ : ℕ) → t₀ ≤ largestInstant → (cs : List Call)
     → Demand t₀ s₀ cs (recorded (machine.run machine (machineCalls cs) (newPort t₀ s₀)))
-unfolding encode
+unfolding encode timetable.encode
 recorded-demand t₀ s₀ h cs =
     let s : Sound (newPort t₀ s₀) = sound-new t₀ s₀ h in
     let o : Outcome model.Port ℕ rule.Act = machine.run machine (machineCalls cs) (newPort t₀ s₀) in
@@ -90,9 +102,9 @@ recorded-demand t₀ s₀ h cs =
       formed = formed (o .port) z;
       final = ap encode (d .final);
       changed = d .changed;
-      shows = record-shows (o .port) z (ruleOctet s₀ (reverse (o .acts))) (d .shows);
-      looks = record-looks (o .port) z (ruleOctet s₀ (reverse (o .acts))) (d .shows);
-      comes = record-comes (o .port) z (ruleOctet s₀ (reverse (o .acts))) (d .shows);
+      shows = record-shows (o .port) z (octetOf s₀ (reverse (o .acts))) (d .shows);
+      looks = record-looks (o .port) z (octetOf s₀ (reverse (o .acts))) (d .shows);
+      comes = record-comes (o .port) z (octetOf s₀ (reverse (o .acts))) (d .shows);
       errors = d .errors;
       overruns = d .overruns;
       idle = λ e k i. (unwritten (e .call) (encode (o .port)) (e .back) k i, idle-outcome (encode (o .port)) (whole-encode (o .port)) e k i);
@@ -123,15 +135,16 @@ idle-left-out t₀ s₀ h cs c i ds =
 
 -- what the acts and the end determine
 demand-same : {t₀ s₀ : ℕ} {cs ds : List Call} {o q : Outcome Port ℕ rule.Act} → Demand t₀ s₀ cs o → Demand t₀ s₀ ds q
-    → o .acts ≡ q .acts → o .port .clock ≡ q .port .clock → o ≡ q
+    → o .acts ≡ q .acts → o .port .gates .times .clock ≡ q .port .gates .times .clock → o ≡ q
 demand-same {t₀} {s₀} {cs} {ds} {o} {q} d f a c =
     let p = d .final ∙ (λ i. encode (replay machine (a i) (c i) (newPort t₀ s₀))) ∙ sym (f .final) in
-    let l = d .changed ∙ (λ i. ruleChanges s₀ [] t₀ (a i) (c i)) ∙ sym (f .changed) in
+    let l = d .changed ∙ (λ i. ruleChanges s₀ [] t₀ (gateActs (a i)) (c i)) ∙ sym (f .changed) in
     λ i. record { port = p i; out = l i; acts = a i }
 
 module _ (t₀ s₀ : ℕ) (h : t₀ ≤ largestInstant) (r : Acted) (k : Makes t₀ s₀ r) (es fs : List Event) (l : Kept (r .port) es) (m : Kept (r .port) fs) where
   -- the same accepted acts at the same instants and the same end: the same record and the same changes
-  pub same-outcome : outcome (r .port) es .acts ≡ outcome (r .port) fs .acts → outcome (r .port) es .port .clock ≡ outcome (r .port) fs .port .clock
+  pub same-outcome : outcome (r .port) es .acts ≡ outcome (r .port) fs .acts
+      → outcome (r .port) es .port .gates .times .clock ≡ outcome (r .port) fs .port .gates .times .clock
       → outcome (r .port) es ≡ outcome (r .port) fs
   same-outcome = demand-same (demand-3 t₀ s₀ h r k es l) (demand-3 t₀ s₀ h r k fs m)
 

@@ -9,16 +9,20 @@ use mathlib.Core.Option.{Option, none, some}
 use Prim.Native.Nat.{ℕ}
 use lib.ListN.{length, take, drop, length-map}
 use Rattle.rule.specs.declared.Refusal.{Refusal}
-use Rattle.rule.specs.Refusals.{accepted}
-use Rattle.rule.specs.Port.{Frame, shown}
+use Rattle.rule.specs.Refusals.{accepted, answerOf}
+use Rattle.rule.specs.Timetable.{shown}
+use Rattle.rule.specs.Port.{Frame}
 use Rattle.rule.specs.Acts as rule
 use Rattle.rule.specs.Machine.{Outcome, log}
+use Rattle.frames.specs.Decision.{choiceOf}
+use Rattle.frames.proofs.Unique.{choice-told}
 use Rattle.port.specs.declared.Port.{Port}
 use Rattle.port.specs.Coding.{decode}
-use Rattle.port.specs.Answers.{answerOf, choiceOf, lookedOf, steppedOf, writtenOf}
-use Rattle.port.specs.Step.{into, instantsOf, octetsOf}
+use Rattle.port.specs.Answers.{writtenOf}
+use Rattle.course.specs.Travel.{into, instantsOf, octetsOf}
 use Rattle.port.specs.Acts.{declines, after, lookDeclines}
 use Rattle.port.specs.Step.{stepDeclines, passes, reported, afterStep}
+use Rattle.port.proofs.Numbers.{number-of, answer-told, lookedOf, looked-number, looked-octet, steppedOf, stepped-number, choice-number}
 use Rattle.history.specs.Calls.{Call, act, transmit, step, look, meant, room, leaves, reports, asked, performed, run}
 use Rattle.history.specs.Outcomes.{Handed, Allowed, StepOutcome, next, paired, written, ifDone, ifChosen, done, Event, callsOf, Kept, outcome}
 
@@ -62,7 +66,7 @@ pub step-written : (p : Port) (goal : ℕ) (instants octets : List ℕ) (r : Ste
 step-written p goal instants octets r k =
     let n : ℕ = room instants octets in
     let l : List (ℕ × ℕ) = reported p (passes p goal n) in
-    let e : writtenOf (r .result .answer) ≡ length l = ap writtenOf (k .answer) ∙ count-is p goal n in
+    let e : writtenOf (r .result .answer) ≡ length l = k .written in
     (λ i. paired (take (e i) (k .instants i)) (take (e i) (k .octets i)))
     ∙ ap₂ paired (column-back (λ (x : ℕ × ℕ). x .0) l instants) (column-back (λ (x : ℕ × ℕ). x .1) l octets)
     ∙ paired-columns l
@@ -93,10 +97,16 @@ chosen-as none (some f) x = refl
 chosen-as (some r) f x = refl
 
 pub done-is : (c : Call) (p : Port) (r : Handed c) → Allowed c p r → done c p r ≡ performed (asked c) p
-done-is (act a) p r k = ap (λ q. ifDone q (p .clock, meant a)) (k .answer) ∙ done-as (declines (meant a) p) (p .clock, meant a)
+done-is (act a) p r k =
+    let d : Option Refusal = declines (meant a) p in
+    let e : r .answer ≡ answerOf d = answer-told (r .answer) (answerOf d) (k .number ∙ sym (number-of d)) in
+    ap (λ q. ifDone q (p .gates .times .clock, meant a)) e ∙ done-as d (p .gates .times .clock, meant a)
 done-is (transmit heads speed) p r k =
-    ap (λ q. ifChosen q (p .clock, rule.transmit heads speed)) (k .answer)
-    ∙ chosen-as (declines (rule.transmit heads speed) p) (rule.performed (rule.transmit heads speed) (decode p) .frame) (p .clock, rule.transmit heads speed)
+    let a : rule.Act = rule.transmit heads speed in
+    let d : Option Refusal = declines a p in
+    let f : Option Frame = rule.performed a (decode p) .frame in
+    let e : r .answer ≡ choiceOf d f = choice-told (r .answer) (choiceOf d f) (k .number ∙ sym (choice-number d f)) (k .values) in
+    ap (λ q. ifChosen q (p .gates .times .clock, a)) e ∙ chosen-as d f (p .gates .times .clock, a)
 done-is (step goal instants octets) p r k = refl
 done-is (look t) p r k = refl
 
@@ -127,14 +137,26 @@ handed (step goal instants octets) p =
       instants = into (instantsOf (reported p k)) instants;
       octets = into (octetsOf (reported p k)) octets;
     }
-handed (look t) p = lookedOf (lookDeclines t p) (shown (decode p) t)
+handed (look t) p = lookedOf (lookDeclines t p) (shown (decode p .gates) t)
 
 pub handed-allowed : (c : Call) (p : Port) → Allowed c p (handed c p)
 unfolding handed
-handed-allowed (act a) p = record { answer = refl; port = refl }
-handed-allowed (transmit heads speed) p = record { answer = refl; port = refl }
-handed-allowed (step goal instants octets) p = record { answer = refl; port = refl; instants = refl; octets = refl }
-handed-allowed (look t) p = refl
+handed-allowed (act a) p = record { number = number-of (declines (meant a) p); port = refl }
+handed-allowed (transmit heads speed) p =
+    let a : rule.Act = rule.transmit heads speed in
+    record { number = choice-number (declines a p) (rule.performed a (decode p) .frame); values = refl; port = refl }
+handed-allowed (step goal instants octets) p =
+    let n : ℕ = room instants octets in
+    record {
+      number = stepped-number (stepDeclines goal p) (length (reported p (passes p goal n)));
+      written = count-is p goal n;
+      port = refl;
+      instants = refl;
+      octets = refl;
+    }
+handed-allowed (look t) p =
+    let octet : ℕ = shown (decode p .gates) t in
+    record { number = looked-number (lookDeclines t p) octet; octet = looked-octet (lookDeclines t p) octet }
 
 pub events : List Call → Port → List Event
 events [] p = []

@@ -13,12 +13,12 @@ use Rattle.rule.specs.Refusals.{accepted}
 use Rattle.rule.specs.Port as model
 use Rattle.rule.specs.Acts as rule
 use Rattle.rule.specs.Machine.{onward, ticks, reach}
-use Rattle.rule.specs.PortMachine.{machine}
+use Rattle.rule.specs.Machines.{machine}
 use Rattle.rule.proofs.Reach.{alike}
 use Rattle.port.specs.declared.Port.{Port}
 use Rattle.port.specs.Record.{wellFormed}
 use Rattle.port.specs.Coding.{decode, encode}
-use Rattle.port.specs.Step.{into, instantsOf, octetsOf}
+use Rattle.course.specs.Travel.{into, instantsOf, octetsOf}
 use Rattle.port.specs.Acts.{declines, after}
 use Rattle.port.specs.Step.{stepDeclines, passes, reported, afterStep}
 use Rattle.port.proofs.Coding.{decode-encode}
@@ -123,15 +123,15 @@ no-instant : (b : Bool) {n : ℕ} → n ≡ 0 → cond b n 0 ≡ 0
 no-instant true e = e
 no-instant false e = refl
 
-pub now-passes : (p : Port) (n : ℕ) → passes p (p .clock) n ≡ 0
+pub now-passes : (p : Port) (n : ℕ) → passes p (p .gates .times .clock) n ≡ 0
 unfolding passes reach
-now-passes p n = no-instant (accepted (stepDeclines (p .clock) p)) (rw sub-self)
+now-passes p n = no-instant (accepted (stepDeclines (p .gates .times .clock) p)) (rw sub-self)
 
 none-reached : (n : ℕ) (s : model.Port) → alike machine s ≡ false → reach machine n 0 s ≡ 0
 unfolding reach alike
 none-reached zero s e = refl
-none-reached (suc n) s e = ap (λ b. onward b 0 (λ r. reach machine n r (model.tick s))) e
+none-reached (suc n) s e = ap (λ b. onward b 0 (λ r. reach machine n r (model.portTick s))) e
 
 pub full-passes : (p : Port) (goal : ℕ) → alike machine (decode p) ≡ false → passes p goal 0 ≡ 0
 unfolding passes
-full-passes p goal e = no-instant (accepted (stepDeclines goal p)) (none-reached (goal - p .clock) (decode p) e)
+full-passes p goal e = no-instant (accepted (stepDeclines goal p)) (none-reached (goal - p .gates .times .clock) (decode p) e)

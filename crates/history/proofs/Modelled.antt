@@ -5,26 +5,22 @@ use mathlib.Core.Bool.{Bool, true, false, cond, not}
 use mathlib.Core.List.{_∷_}
 use Prim.Native.Nat.{ℕ, _-_}
 use native.Mathlib.Omega.{arith}
+use Rattle.rule.specs.Limits.{largestStep}
 use Rattle.rule.specs.declared.Refusal.the-variants.{MalformedPort}
 use Rattle.rule.specs.Refusals.{firstOf, accepted}
 use Rattle.rule.specs.Port as model
 use Rattle.rule.specs.Acts.{Act, perform}
 use Rattle.rule.specs.Orders.{actOrder, stepOrder, accepts, acceptsGoal}
 use Rattle.rule.specs.Machine.{ticks, log, reach, elapsed, step}
-use Rattle.rule.specs.PortMachine.{machine}
-use Rattle.rule.specs.Sound.{Sound}
+use Rattle.rule.specs.Machines.{machine}
+use Rattle.rule.proofs.Soundness.{Sound}
 use Rattle.rule.proofs.Orders.{goal-passed}
 use Rattle.rule.proofs.Reach.{stepped}
 use Rattle.rule.proofs.Sound.{sound-ticks, sound-perform}
-use Rattle.port.specs.declared.Port.{Port}
 use Rattle.port.specs.Coding.{encode}
 use Rattle.port.specs.Acts.{declines, after}
 use Rattle.port.specs.Step.{stepDeclines, passes, reported, afterStep}
-use Rattle.port.proofs.Coding.{decode-encode, formed}
-
-pub clock-encode : (m : model.Port) → encode m .clock ≡ m .clock
-unfolding encode
-clock-encode m = refl
+use Rattle.port.proofs.Coding.{decode-encode, formed, clock-encode}
 
 -- acts
 
@@ -51,19 +47,13 @@ module _ (m : model.Port) (s : Sound m) (a : Act) where
 -- steps
 
 module _ (m : model.Port) (s : Sound m) (goal : ℕ) where
-  pub goal-is : accepted (stepDeclines goal (encode m)) ≡ acceptsGoal goal m
+  pub goal-is : accepted (stepDeclines goal (encode m)) ≡ acceptsGoal goal (m .gates)
   unfolding stepDeclines acceptsGoal
-  goal-is = ap₂ (λ w d. accepted (firstOf ((not w, MalformedPort) ∷ stepOrder goal d))) (formed m s) (decode-encode m)
+  goal-is = ap₂ (λ w d. accepted (firstOf ((not w, MalformedPort) ∷ stepOrder largestStep goal (d .gates)))) (formed m s) (decode-encode m)
 
   pub passes-is : (room : ℕ) → passes (encode m) goal room ≡ elapsed machine (step goal room) m
-  unfolding passes elapsed encode
-  passes-is room =
-      ap₂ (λ b d. cond b (reach machine (goal - m .clock) room d) 0) goal-is (decode-encode m)
-      ∙ go (acceptsGoal goal m) (reach machine (goal - m .clock) room m)
-    where
-      go : (b : Bool) (n : ℕ) → cond b n 0 ≡ elim b [ true ↦ n | false ↦ 0 ]
-      go true n = refl
-      go false n = refl
+  unfolding passes elapsed
+  passes-is room i = cond (goal-is i) (reach machine (goal - clock-encode m i) room (decode-encode m i)) 0
 
   none-passes : (room : ℕ) → accepted (stepDeclines goal (encode m)) ≡ false → passes (encode m) goal room ≡ 0
   unfolding passes
@@ -89,10 +79,11 @@ module _ (m : model.Port) (s : Sound m) (goal : ℕ) where
 
   pub sound-step : (room : ℕ) → Sound (ticks machine (elapsed machine (step goal room) m) m)
   unfolding elapsed
-  sound-step room = go (acceptsGoal goal m) refl
+  sound-step room = go (acceptsGoal goal (m .gates)) refl
     where
-      go : (b : Bool) → acceptsGoal goal m ≡ b → Sound (ticks machine (elim b [ true ↦ reach machine (goal - m .clock) room m | false ↦ 0 ]) m)
+      go : (b : Bool) → acceptsGoal goal (m .gates) ≡ b → Sound (ticks machine (cond b (reach machine (goal - m .gates .clock) room m) 0) m)
       go true e =
-          let z = goal-passed goal m e in
-          sound-ticks (reach machine (goal - m .clock) room m) m (omega (arith, z .reached, z .ahead, stepped machine (goal - m .clock) room m .within)) s
-      go false e = sound-ticks 0 m (omega (arith, s .clock)) s
+          let z = goal-passed goal (m .gates) e in
+          sound-ticks (reach machine (goal - m .gates .clock) room m) m
+          (omega (arith, z .reached, z .ahead, stepped machine (goal - m .gates .clock) room m .within)) s
+      go false e = sound-ticks 0 m (omega (arith, s .gates .clock)) s

@@ -12,15 +12,16 @@ use Rattle.rule.specs.Acts.{perform}
 use Rattle.rule.specs.Orders.{accepts}
 use Rattle.rule.specs.Machine as machine
 use Rattle.rule.specs.Machine.{Outcome, attempt, withAct, ticks, log, elapsed}
-use Rattle.rule.specs.PortMachine.{machine}
-use Rattle.rule.specs.Sound.{Sound}
+use Rattle.rule.specs.Machines.{machine}
+use Rattle.rule.proofs.Soundness.{Sound}
 use Rattle.rule.proofs.Cut.{cases}
 use Rattle.rule.proofs.Sound.{sound-perform}
 use Rattle.port.specs.declared.Port.{Port}
 use Rattle.port.specs.Coding.{encode}
 use Rattle.port.specs.Acts.{declines, after}
+use Rattle.port.proofs.Coding.{clock-encode}
 use Rattle.history.specs.Calls.{Call, act, transmit, step, look, meant, room, leaves, reports, run, tried}
-use Rattle.history.proofs.Modelled.{clock-encode, accepted-is, after-is, sound-act, afterStep-is, reported-is, sound-step}
+use Rattle.history.proofs.Modelled.{accepted-is, after-is, sound-act, afterStep-is, reported-is, sound-step}
 
 -- the machine's calls: a look is none
 pub machineCalls : List Call → List (machine.Call rule.Act)
@@ -46,19 +47,19 @@ abbrev pub TriedAs : List Call → Type 0
 TriedAs cs = (m : model.Port) → Sound m → tried cs (encode m) ≡ machine.tried machine (machineCalls cs) m
 
 act-run : (cs : List Call) → Follows cs → (m : model.Port) → Sound m → (a : rule.Act)
-    → acting a (accepted (declines a (encode m))) (encode m .clock) (run cs (after a (encode m)))
+    → acting a (accepted (declines a (encode m))) (encode m .gates .times .clock) (run cs (after a (encode m)))
     ≡ recorded (machine.run machine (attempt a ∷ machineCalls cs) m)
 unfolding machine.run
 act-run cs f m s a =
     (λ i. acting a (accepted-is m s a i) (clock-encode m i) (run cs (after-is m s a i)))
-    ∙ ap (acting a (accepts a m) (m .clock)) (f (cond (accepts a m) (perform a m) m) (sound-act m s a))
+    ∙ ap (acting a (accepts a m) (m .gates .clock)) (f (cond (accepts a m) (perform a m) m) (sound-act m s a))
     ∙ go (accepts a m)
   where
     l : List (machine.Call rule.Act)
     l = machineCalls cs
 
-    go : (b : Bool) → acting a b (m .clock) (recorded (machine.run machine l (cond b (perform a m) m)))
-        ≡ recorded (cond b (withAct (m .clock) a (machine.run machine l (perform a m))) (machine.run machine l m))
+    go : (b : Bool) → acting a b (m .gates .clock) (recorded (machine.run machine l (cond b (perform a m) m)))
+        ≡ recorded (cond b (withAct (m .gates .clock) a (machine.run machine l (perform a m))) (machine.run machine l m))
     go true = refl
     go false = refl
 
@@ -85,11 +86,11 @@ run-is (look t ∷ cs) m s = run-is cs m s
 -- the acts tried
 
 act-tried : (cs : List Call) → TriedAs cs → (m : model.Port) → Sound m → (a : rule.Act)
-    → (encode m .clock, a) ∷ tried cs (after a (encode m)) ≡ machine.tried machine (attempt a ∷ machineCalls cs) m
+    → (encode m .gates .times .clock, a) ∷ tried cs (after a (encode m)) ≡ machine.tried machine (attempt a ∷ machineCalls cs) m
 unfolding machine.tried
 act-tried cs f m s a =
     (λ i. (clock-encode m i, a) ∷ tried cs (after-is m s a i))
-    ∙ ap (λ l. (m .clock, a) ∷ l) (f (cond (accepts a m) (perform a m) m) (sound-act m s a))
+    ∙ ap (λ l. (m .gates .clock, a) ∷ l) (f (cond (accepts a m) (perform a m) m) (sound-act m s a))
 
 pub tried-is : (cs : List Call) → TriedAs cs
 unfolding machineCalls tried leaves machine.tried

@@ -23,10 +23,10 @@ pub data PortAct : Type 0 where
 
 -- the act of document 01 that is meant
 abbrev pub meant : PortAct → rule.Act
-meant on = rule.on
-meant off = rule.off
-meant (standing octet) = rule.standing octet
-meant (submit list numerator denominator extension base) = rule.submit (submission list numerator denominator extension base)
+meant on = rule.gates rule.on
+meant off = rule.gates rule.off
+meant (standing octet) = rule.gates (rule.standing octet)
+meant (submit list numerator denominator extension base) = rule.gates (rule.submit (submission list numerator denominator extension base))
 
 -- a step is lent two buffers, as they stand
 pub data Call : Type 0 where
@@ -62,11 +62,11 @@ asked (look t) = none
 
 abbrev pub attempted : Option rule.Act → Port → List (ℕ × rule.Act)
 attempted none p = []
-attempted (some a) p = (p .clock, a) ∷ []
+attempted (some a) p = (p .gates .times .clock, a) ∷ []
 
 abbrev pub performed : Option rule.Act → Port → List (ℕ × rule.Act)
 performed none p = []
-performed (some a) p = cond (accepted (declines a p)) ((p .clock, a) ∷ []) []
+performed (some a) p = cond (accepted (declines a p)) ((p .gates .times .clock, a) ∷ []) []
 
 -- a run
 unfoldable pub run : List Call → Port → Outcome Port ℕ rule.Act

@@ -8,11 +8,13 @@ use Prim.Native.Nat.{ℕ, _^_, _%_, _≤_, _<_}
 use lib.ListN.{getD}
 use Rattle.rule.specs.Limits.{largestInstant}
 use Rattle.rule.specs.Refusals.{accepted}
-use Rattle.rule.specs.Port.{newPort, shown}
+use Rattle.rule.specs.Timetable.{shown}
+use Rattle.rule.specs.Port.{newPort}
 use Rattle.rule.specs.Acts as rule
 use Rattle.rule.specs.Machine.{Outcome, replay}
-use Rattle.rule.specs.PortMachine.{machine}
-use Rattle.rule.specs.History.{ruleOctet, ruleErrors, ruleOverruns, ruleChanges}
+use Rattle.rule.specs.Machines.{machine}
+use Rattle.rule.specs.History.{ruleErrors, ruleChanges}
+use Rattle.rule.specs.Frames.{gateActs, octetOf, ruleOverruns}
 use Rattle.port.specs.declared.Port.{Port}
 use Rattle.port.specs.declared.Looked.{Looked}
 use Rattle.port.specs.declared.Stepped.{Stepped}
@@ -45,18 +47,18 @@ pub record Demand (t₀ s₀ : ℕ) (cs : List Call) (o : Outcome Port ℕ rule.
   pub given : o ≡ run cs (encode (newPort t₀ s₀))
   -- the record is well formed, and is that of the accepted acts and the end alone: no steps, no buffers, no refusals
   pub formed : wellFormed (o .port) ≡ true
-  pub final : o .port ≡ encode (replay machine (o .acts) (o .port .clock) (newPort t₀ s₀))
+  pub final : o .port ≡ encode (replay machine (o .acts) (o .port .gates .times .clock) (newPort t₀ s₀))
   -- the changes in the buffers, joined end to end, are those of the rule over the acts
-  pub changed : o .out ≡ ruleChanges s₀ [] t₀ (o .acts) (o .port .clock)
+  pub changed : o .out ≡ ruleChanges s₀ [] t₀ (gateActs (o .acts)) (o .port .gates .times .clock)
   -- the octet at the end and at each instant after it is the rule's; so says a look, and so shows the record that a further step comes to
-  pub shows : (t : ℕ) → o .port .clock ≤ t → shown (decode (o .port)) t ≡ ruleOctet s₀ (reverse (o .acts)) t
-  pub looks : (t : ℕ) → o .port .clock ≤ t → t ≤ largestInstant → (r : Looked) → Looks (o .port) t r
-      → r ≡ looked.Octet (ruleOctet s₀ (reverse (o .acts)) t)
+  pub shows : (t : ℕ) → o .port .gates .times .clock ≤ t → shown (decode (o .port) .gates) t ≡ octetOf s₀ (reverse (o .acts)) t
+  pub looks : (t : ℕ) → o .port .gates .times .clock ≤ t → t ≤ largestInstant → (r : Looked) → Looks (o .port) t r
+      → r ≡ looked.Octet (octetOf s₀ (reverse (o .acts)) t)
   pub comes : (goal : ℕ) (at at′ os os′ : List ℕ) (r : Stepped) → Steps (o .port) goal at at′ os os′ r
-      → shown (decode (r .port)) (r .port .clock) ≡ ruleOctet s₀ (reverse (o .acts)) (r .port .clock)
+      → shown (decode (r .port) .gates) (r .port .gates .times .clock) ≡ octetOf s₀ (reverse (o .acts)) (r .port .gates .times .clock)
   -- the counts are the rule's, modulo 2^64
-  pub errors : o .port .errors ≡ ruleErrors (reverse (o .acts)) % 2 ^ 64
-  pub overruns : (k : ℕ) → k < 8 → getD (o .port .overruns) k 0 ≡ ruleOverruns s₀ k [] (o .acts) (o .port .clock) % 2 ^ 64
+  pub errors : o .port .gates .times .errors ≡ ruleErrors (gateActs (reverse (o .acts))) % 2 ^ 64
+  pub overruns : (k : ℕ) → k < 8 → getD (o .port .overruns) k 0 ≡ ruleOverruns s₀ k [] (o .acts) (o .port .gates .times .clock) % 2 ^ 64
   -- an idle call changes nothing, and what follows it is as if it had not been
   pub idle : (e : Event) → Allowed (e .call) (o .port) (e .back) → Idle (e .call) (o .port)
       → Unwritten (e .call) (e .back) × ((es : List Event) → outcome (o .port) (e ∷ es) ≡ outcome (o .port) es)

@@ -11,13 +11,13 @@ use Rattle.port.specs.declared.Port.{Port}
 use Rattle.port.specs.declared.Acted.{Acted}
 use Rattle.port.specs.declared.Looked.{Looked}
 use Rattle.port.specs.declared.Stepped.{Stepped}
-use Rattle.port.specs.declared.Answer.{Answer}
-use Rattle.port.specs.declared.Answer.the-variants as answer
+use Rattle.rule.specs.declared.Answer.{Answer}
+use Rattle.rule.specs.declared.Answer.the-variants as answer
 use Rattle.port.specs.Answers.{writtenOf}
 use Rattle.port.specs.Acts.{Performs, Looks}
 use Rattle.port.specs.declared.Transmitted.{Transmitted}
-use Rattle.port.specs.declared.Choice.{Choice}
-use Rattle.port.specs.declared.Choice.the-variants as choice
+use Rattle.frames.specs.declared.Choice.{Choice}
+use Rattle.frames.specs.declared.Choice.the-variants as choice
 use Rattle.port.specs.Transmit.{Transmits}
 use Rattle.port.specs.Step.{Steps}
 use Rattle.history.specs.Calls.{meant, Call, act, transmit, step, look}
@@ -74,8 +74,8 @@ ifChosen choice.Nothing x = x ∷ []
 ifChosen (choice.Refused r) x = []
 
 abbrev pub done : (c : Call) → Port → Handed c → List (ℕ × rule.Act)
-done (act a) p r = ifDone (r .answer) (p .clock, meant a)
-done (transmit heads speed) p r = ifChosen (r .answer) (p .clock, rule.transmit heads speed)
+done (act a) p r = ifDone (r .answer) (p .gates .times .clock, meant a)
+done (transmit heads speed) p r = ifChosen (r .answer) (p .gates .times .clock, rule.transmit heads speed)
 done (step goal instants octets) p r = []
 done (look t) p r = []
 

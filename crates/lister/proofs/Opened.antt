@@ -9,51 +9,55 @@ use Prim.Native.Nat.{ℕ, _≤_}
 use native.Mathlib.Omega.{arith}
 use borrow.Author.Tests.{le-ltb}
 use Rattle.rule.specs.Limits.{largestInstant}
+use Rattle.rule.specs.declared.Answer.{Answer}
+use Rattle.rule.specs.declared.Answer.the-variants as answer
 use Rattle.rule.specs.declared.Refusal.{Refusal}
-use Rattle.rule.specs.Refusals.{firstOf, accepted}
+use Rattle.rule.specs.Refusals.{firstOf, accepted, numberOf, numbered, answerNumber}
 use Rattle.rule.specs.Entries.{Entry}
+use Rattle.rule.specs.Timetable.{shown, shownNow}
 use Rattle.rule.specs.Port as model
-use Rattle.rule.specs.Acts.{Act, perform}
-use Rattle.rule.specs.Orders.{actOrder, stepOrder, lookOrder, newOrder, accepts}
+use Rattle.rule.specs.Acts.{Act, isSome, perform}
+use Rattle.rule.specs.Orders.{actOrder, lookOrder, newOrder, accepts}
 use Rattle.rule.proofs.Refusals.{number-same, number-some}
 use Rattle.rule.proofs.Orders.{new-passed}
 use Rattle.rule.proofs.Sound.{sound-perform, sound-new}
 use Rattle.gatelist.specs.declared.GateList.{GateList}
-use Rattle.gatelist.specs.declared.ListRead.{ListRead}
-use Rattle.gatelist.specs.declared.ReadAnswer.the-variants.{Accepted, Declined}
 use Rattle.gatelist.specs.Coding.{listOf, encodeList}
-use Rattle.gatelist.specs.Octets.{Reading, reading, answered, readingOf, readList, readRefusal}
 use Rattle.gatelist.proofs.Coding.{list-decoded}
+use Rattle.octets.specs.declared.ListRead.{ListRead}
+use Rattle.octets.specs.declared.ReadAnswer.the-variants.{Accepted, Declined}
+use Rattle.octets.specs.Octets.{Reading, reading, answered, readingOf, readList, readRefusal}
+use Rattle.timetable.specs.Coding as timetable
 use Rattle.port.specs.declared.Port.{Port}
 use Rattle.port.specs.declared.Acted.{Acted}
-use Rattle.port.specs.declared.Answer.{Answer}
-use Rattle.port.specs.declared.Answer.the-variants as answer
+use Rattle.port.specs.declared.StepAnswer.{StepAnswer}
 use Rattle.port.specs.declared.StepAnswer.the-variants as stepped
 use Rattle.port.specs.declared.Looked.{Looked}
 use Rattle.port.specs.declared.Looked.the-variants as looked
 use Rattle.port.specs.Record.{wellFormed}
 use Rattle.port.specs.Coding.{decode, encode, Fine}
-use Rattle.port.specs.Answers.{answerOf, steppedOf, lookedOf, lookedOctet, lookedNumber}
+use Rattle.port.specs.Answers.{steppedNumber, lookedOctet, lookedNumber}
 use Rattle.port.specs.Acts.{declines, after, Performs, Makes, lookDeclines, Looks}
 use Rattle.port.specs.Step.{stepDeclines}
 use Rattle.port.proofs.Coding.{decode-encode, formed, encoded-fine}
+use Rattle.port.proofs.Numbers.{looked-told}
 use Rattle.sheet.specs.declared.Sheet.{Sheet}
 use Rattle.sheet.specs.declared.SheetRead.the-variants as sheet
 use Rattle.sheet.specs.Sheet.{readSheet}
 use Rattle.lister.specs.declared.opening.Opened.{Opened}
-use Rattle.lister.specs.Opening.{Opening, refused, spans, unlessRefused, unlessDeclined, listOctets, entriesOf, switchOn, submits, switchedPort, submittedPort, callsOrder, openingWith, openingOf, opening}
+use Rattle.lister.specs.Opening.{Opening, refused, spans, stepsTo, unlessRefused, unlessDeclined, listOctets, entriesOf, switchOn, submits, switchedPort, submittedPort, callsOrder, openingWith, openingOf, opening}
 use Rattle.lister.specs.Pages.{clockOf, errorsOf, Opens, openedAs}
 
 pub fine-formed : (p : Port) → Fine p → wellFormed p ≡ true
 fine-formed p f = subst (λ q. wellFormed q ≡ true) (f .whole) (formed (decode p) (f .sound))
 
 -- a record's clock and ConfigChangeError are those of its port
-pub clock-decode : (p : Port) → decode p .clock ≡ clockOf p
-unfolding decode
+pub clock-decode : (p : Port) → decode p .gates .clock ≡ clockOf p
+unfolding decode timetable.decode
 clock-decode p = refl
 
-pub errors-decode : (p : Port) → decode p .errors ≡ errorsOf p
-unfolding decode
+pub errors-decode : (p : Port) → decode p .gates .errors ≡ errorsOf p
+unfolding decode timetable.decode
 errors-decode p = refl
 
 -- the octet that it shows there
@@ -64,19 +68,21 @@ module _ (p : Port) (f : Fine p) (r : Looked) (k : Looks p (clockOf p) r) where
   look-taken =
       simp (
         fine-formed p f,
-        le-ltb largestInstant (clockOf p) (subst (λ t. t ≤ largestInstant) (clock-decode p) (f .sound .clock)),
-        le-ltb (clockOf p) (decode p .clock) (omega (arith, clock-decode p)),
+        le-ltb largestInstant (clockOf p) (subst (λ t. t ≤ largestInstant) (clock-decode p) (f .sound .gates .clock)),
+        le-ltb (clockOf p) (decode p .gates .clock) (omega (arith, clock-decode p)),
       )
 
-  look-shown : r ≡ looked.Octet (model.shownNow (decode p))
-  unfolding model.shownNow
-  look-shown = k ∙ ap (λ o. lookedOf o (model.shown (decode p) (clockOf p))) look-taken ∙ ap (λ t. looked.Octet (model.shown (decode p) t)) (sym (clock-decode p))
+  look-shown : r ≡ looked.Octet (shownNow (decode p .gates))
+  unfolding shownNow
+  look-shown =
+      looked-told r (looked.Octet (shownNow (decode p .gates))) (k .number ∙ ap numbered look-taken)
+      (k .octet ∙ ap (λ o. cond (accepted o) (shown (decode p .gates) (clockOf p)) 0) look-taken ∙ ap (shown (decode p .gates)) (sym (clock-decode p)))
 
-  pub look-octet : (o : ℕ) → r ≡ looked.Octet o → o ≡ model.shownNow (decode p)
+  pub look-octet : (o : ℕ) → r ≡ looked.Octet o → o ≡ shownNow (decode p .gates)
   look-octet o e = ap lookedOctet (sym e ∙ look-shown)
 
   pub look-given : (q : Refusal) → r ≡ looked.Refused q → ⊥
-  look-given q e = let z = ap lookedNumber (sym e ∙ look-shown) in let y : _≡_ {A = ℕ} 0 1 = cc in omega arith
+  look-given q e = true≢false (ap isSome (ap lookedNumber (sym e ∙ look-shown)))
 
 -- refusals
 
@@ -118,43 +124,34 @@ first-met (x ∷ a) b r e = go (x .0) (first-met a b r) e
 
 -- what an answer tells of its order
 
-refused-same : (q r : Refusal) → answer.Refused q ≡ answer.Refused r → q ≡ r
-refused-same q r e = cc
+pub refused-told : (o : Option Refusal) (r : Refusal) → numbered o ≡ some (numberOf r) → o ≡ some r
+refused-told none r e = absurd (true≢false (sym (ap isSome e)))
+refused-told (some q) r e = ap some (number-same q r (same (numberOf q) (numberOf r) e))
+  where
+    same : (m n : ℕ) → some m ≡ some n → m ≡ n
+    same m n w = cc
 
-pub answer-refused : (o : Option Refusal) (r : Refusal) → answerOf o ≡ answer.Refused r → o ≡ some r
-unfolding isDone
-answer-refused none r e = absurd (true≢false (ap isDone e))
-answer-refused (some q) r e = ap some (refused-same q r e)
-
-pub answer-done : (o : Option Refusal) → answerOf o ≡ answer.Done → o ≡ none
-unfolding isDone
-answer-done none e = refl
-answer-done (some q) e = absurd (true≢false (sym (ap isDone e)))
+pub taken-told : (o : Option Refusal) → numbered o ≡ none → o ≡ none
+taken-told none e = refl
+taken-told (some q) e = absurd (true≢false (ap isSome e))
 
 -- a step with any room
 
 module _ (p : Port) (f : Fine p) (end : ℕ) where
-  pub declines-step : stepDeclines end p ≡ firstOf (stepOrder end (decode p))
+  pub declines-step : stepDeclines end p ≡ firstOf (stepsTo end (decode p))
   unfolding stepDeclines
   declines-step = rw (fine-formed p f)
 
-  pub step-refused : (n : ℕ) (r : Refusal) → steppedOf (stepDeclines end p) n ≡ stepped.Refused r → firstOf (stepOrder end (decode p)) ≡ some r
-  step-refused n r e = sym declines-step ∙ go (stepDeclines end p) e
-    where
-      go : (o : Option Refusal) → steppedOf o n ≡ stepped.Refused r → o ≡ some r
-      go none q = cc
-      go (some t) q = cc
+  module _ (x : StepAnswer) (k : steppedNumber x ≡ numbered (stepDeclines end p)) where
+    pub step-refused : (r : Refusal) → x ≡ stepped.Refused r → firstOf (stepsTo end (decode p)) ≡ some r
+    step-refused r e = sym declines-step ∙ refused-told (stepDeclines end p) r (sym k ∙ ap steppedNumber e)
 
-  pub step-taken : (n k : ℕ) → steppedOf (stepDeclines end p) n ≡ stepped.Written k → stepDeclines end p ≡ none
-  step-taken n k e = go (stepDeclines end p) e
-    where
-      go : (o : Option Refusal) → steppedOf o n ≡ stepped.Written k → o ≡ none
-      go none q = refl
-      go (some t) q = cc
+    pub step-taken : (n : ℕ) → x ≡ stepped.Written n → stepDeclines end p ≡ none
+    step-taken n e = taken-told (stepDeclines end p) (sym k ∙ ap steppedNumber e)
 
   pub opens-span : stepDeclines end p ≡ none → (x : Opened) → x .answer ≡ answer.Done → x .port ≡ p → x .end ≡ end
-      → Opens (unlessRefused (firstOf (stepOrder end (decode p))) (spans (decode p) end)) x
-  opens-span e x a b c = passed-by (firstOf (stepOrder end (decode p))) (spans (decode p) end) x (sym declines-step ∙ e) (record {
+      → Opens (unlessRefused (firstOf (stepsTo end (decode p))) (spans (decode p) end)) x
+  opens-span e x a b c = passed-by (firstOf (stepsTo end (decode p))) (spans (decode p) end) x (sym declines-step ∙ e) (record {
     is = λ i. openedAs (a i) (decode (b i)) (c i);
     ready = λ _. record { fine = subst Fine (sym b) f; goal = (λ i. accepted (stepDeclines (c i) (b i))) ∙ ap accepted e };
   })
@@ -167,10 +164,10 @@ module _ (a : Act) (p : Port) (f : Fine p) (r : Acted) (k : Performs a p r) wher
   declines-act = rw (fine-formed p f)
 
   pub act-refused : (q : Refusal) → r .answer ≡ answer.Refused q → firstOf (actOrder a (decode p)) ≡ some q
-  act-refused q e = sym declines-act ∙ answer-refused (declines a p) q (sym (k .answer) ∙ e)
+  act-refused q e = sym declines-act ∙ refused-told (declines a p) q (sym (k .number) ∙ ap answerNumber e)
 
   pub act-done : r .answer ≡ answer.Done → firstOf (actOrder a (decode p)) ≡ none
-  act-done e = sym declines-act ∙ answer-done (declines a p) (sym (k .answer) ∙ e)
+  act-done e = sym declines-act ∙ taken-told (declines a p) (sym (k .number) ∙ ap answerNumber e)
 
   module _ (e : firstOf (actOrder a (decode p)) ≡ none) where
     act-port : r .port ≡ encode (perform a (decode p))
@@ -188,10 +185,10 @@ module _ (a : Act) (p : Port) (f : Fine p) (r : Acted) (k : Performs a p r) wher
 
 module _ (start octet : ℕ) (r : Acted) (k : Makes start octet r) where
   pub new-refused : (q : Refusal) → r .answer ≡ answer.Refused q → firstOf (newOrder start) ≡ some q
-  new-refused q e = answer-refused (firstOf (newOrder start)) q (sym (k .answer) ∙ e)
+  new-refused q e = refused-told (firstOf (newOrder start)) q (sym (k .number) ∙ ap answerNumber e)
 
   pub new-done : r .answer ≡ answer.Done → firstOf (newOrder start) ≡ none
-  new-done e = answer-done (firstOf (newOrder start)) (sym (k .answer) ∙ e)
+  new-done e = taken-told (firstOf (newOrder start)) (sym (k .number) ∙ ap answerNumber e)
 
   module _ (e : firstOf (newOrder start) ≡ none) where
     new-port : r .port ≡ encode (model.newPort start octet)
@@ -209,20 +206,20 @@ module _ (start octet : ℕ) (r : Acted) (k : Makes start octet r) where
 abbrev pub submitOpening : Port → Sheet → List Entry → Opening
 submitOpening p h l =
     let a : Act = submits h l in
-    unlessRefused (firstOf (actOrder a (decode p) ++ stepOrder (h .end) (perform a (decode p)))) (spans (perform a (decode p)) (h .end))
+    unlessRefused (firstOf (actOrder a (decode p) ++ stepsTo (h .end) (perform a (decode p)))) (spans (perform a (decode p)) (h .end))
 
 module _ (p : Port) (f : Fine p) (h : Sheet) (l : List Entry) (r : Acted) (k : Performs (submits h l) p r) (x : Opened) where
   pub submit-refused : (q : Refusal) → r .answer ≡ answer.Refused q → Opens (refused q) x → Opens (submitOpening p h l) x
   submit-refused q e z = refused-by _ _ q x (first-met (actOrder (submits h l) (decode p)) _ q (act-refused (submits h l) p f r k q e)) z
 
   pub submit-done : r .answer ≡ answer.Done
-      → Opens (unlessRefused (firstOf (stepOrder (h .end) (decode (r .port)))) (spans (decode (r .port)) (h .end))) x → Opens (submitOpening p h l) x
+      → Opens (unlessRefused (firstOf (stepsTo (h .end) (decode (r .port)))) (spans (decode (r .port)) (h .end))) x → Opens (submitOpening p h l) x
   submit-done e z =
       let n = act-done (submits h l) p f r k e in
       let d = act-decoded (submits h l) p f r k n in
       subst (λ o. Opens (unlessRefused o (spans (perform (submits h l) (decode p)) (h .end))) x)
-      (sym (first-passed (actOrder (submits h l) (decode p)) (stepOrder (h .end) (perform (submits h l) (decode p))) n))
-      (subst (λ q. Opens (unlessRefused (firstOf (stepOrder (h .end) q)) (spans q (h .end))) x) d z)
+      (sym (first-passed (actOrder (submits h l) (decode p)) (stepsTo (h .end) (perform (submits h l) (decode p))) n))
+      (subst (λ q. Opens (unlessRefused (firstOf (stepsTo (h .end) q)) (spans q (h .end))) x) d z)
 
 module _ (h : Sheet) (r : Acted) (k : Makes (h .start) (h .standing) r) where
   pub with-refused : (l : List Entry) (x : Opened) (q : Refusal) → r .answer ≡ answer.Refused q → Opens (refused q) x → Opens (openingWith h l) x
@@ -247,7 +244,7 @@ module _ (h : Sheet) (r : Acted) (k : Makes (h .start) (h .standing) r) where
         let a : Act = submits h l in
         subst (λ o. Opens (unlessRefused o (spans (submittedPort h l) (h .end))) x)
         (sym (first-passed (newOrder (h .start)) _ (new-done (h .start) (h .standing) r k e)))
-        (subst (λ q. Opens (unlessRefused (firstOf (actOrder a q ++ stepOrder (h .end) (perform a q))) (spans (perform a q) (h .end))) x) on-decoded z)
+        (subst (λ q. Opens (unlessRefused (firstOf (actOrder a q ++ stepsTo (h .end) (perform a q))) (spans (perform a q) (h .end))) x) on-decoded z)
 
 -- the list's reading
 

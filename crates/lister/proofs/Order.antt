@@ -15,12 +15,13 @@ use Rattle.rule.specs.declared.Refusal.the-variants.{CycleTime, AboveLargest, B
 use Rattle.rule.specs.Refusals.{firstOf}
 use Rattle.rule.specs.Entries.{Entry}
 use Rattle.rule.specs.Cycle.{cycleOffered}
+use Rattle.rule.specs.Timetable.{newTimetable}
 use Rattle.rule.specs.Port.{newPort}
 use Rattle.rule.specs.Acts.{isSome, perform}
 use Rattle.rule.specs.Orders.{lengthOffered, hasZeroInterval, submitOrder, stepOrder, newOrder}
-use Rattle.rule.specs.PortMachine.{clock-perform}
+use Rattle.rule.proofs.Laws.{clock-perform}
 use Rattle.gatelist.specs.Coding.{listFrom}
-use Rattle.gatelist.specs.Octets.{entryAt, statedOrder, entryOrder, refusedAt, refusalFrom, readRefusal}
+use Rattle.octets.specs.Octets.{entryAt, statedOrder, entryOrder, refusedAt, refusalFrom, readRefusal}
 use Rattle.gatelist.proofs.Coding.{length-from}
 use Rattle.sheet.specs.declared.Sheet.{Sheet}
 use Rattle.lister.specs.Opening.{listOctets, entriesOf, switchOn, submits, madePort, switchedPort, submittedPort, callsOrder}
@@ -62,16 +63,16 @@ read-valid s n e =
 
 -- the port that is submitted to is on, and nothing waits in it
 
-on-is : (h : Sheet) → switchedPort h .on ≡ true
-unfolding perform newPort
+on-is : (h : Sheet) → switchedPort h .gates .on ≡ true
+unfolding perform newPort newTimetable
 on-is h = refl
 
-waits-not : (h : Sheet) → isSome (switchedPort h .waiting) ≡ false
-unfolding perform newPort
+waits-not : (h : Sheet) → isSome (switchedPort h .gates .waiting) ≡ false
+unfolding perform newPort newTimetable
 waits-not h = refl
 
-clock-submitted : (h : Sheet) (l : List Entry) → submittedPort h l .clock ≡ h .start
-unfolding newPort
+clock-submitted : (h : Sheet) (l : List Entry) → submittedPort h l .gates .clock ≡ h .start
+unfolding newPort newTimetable
 clock-submitted h l = clock-perform (submits h l) (switchedPort h) ∙ clock-perform switchOn (madePort h)
 
 -- start 9, cycle 8, base 9, end 9, 10, 11

@@ -4,7 +4,6 @@
 use mathlib.Core.Path.{_≡_, refl, ap, ap₂, sym, subst, _∙_}
 use mathlib.Core.Bool.{Bool, true, false, cond, true≢false}
 use mathlib.Core.List.{List, _++_}
-use mathlib.Core.Option.{Option, none, some}
 use Prim.Native.Nat.{ℕ, zero, suc, _+_, _-_, _*_, _≤_, _<_, min}
 use native.Mathlib.Nat.{sub-self}
 use native.Mathlib.Omega.{arith}
@@ -12,13 +11,16 @@ use borrow.Author.Tests.{le-ltb}
 use lib.Dec.{eqb}
 use lib.ListN.{length, length-append, length-take}
 use Rattle.rule.specs.Limits.{largestInstant, largestStep}
+use Rattle.rule.specs.declared.Answer.the-variants as answer
 use Rattle.rule.specs.declared.Refusal.{Refusal}
 use Rattle.rule.specs.Refusals.{firstOf, accepted}
+use Rattle.rule.specs.Timetable.{shownNow}
 use Rattle.rule.specs.Port as model
 use Rattle.rule.specs.Orders.{stepOrder, acceptsGoal}
 use Rattle.rule.specs.Machine.{ticks, noted, log, reach}
-use Rattle.rule.specs.PortMachine.{machine, clock-tick}
+use Rattle.rule.specs.Machines.{machine}
 use Rattle.rule.proofs.Cut.{clock-ticks, ticks-add, log-add}
+use Rattle.rule.proofs.Laws.{lawful}
 use Rattle.rule.proofs.Reach.{stepped, moves}
 use Rattle.rule.proofs.Orders.{PassedGoal, goal-passed}
 use Rattle.rule.proofs.Sound.{sound-ticks}
@@ -26,31 +28,30 @@ use Rattle.port.specs.declared.Port.{Port}
 use Rattle.port.specs.declared.Stepped.{Stepped}
 use Rattle.port.specs.declared.StepAnswer.the-variants as stepAnswer
 use Rattle.port.specs.Coding.{decode, encode, Fine}
-use Rattle.port.specs.Answers.{steppedOf}
-use Rattle.port.specs.Step.{instantsOf, octetsOf, into, stepDeclines, passes, reported, afterStep, StepsBy, Steps}
-use Rattle.port.proofs.Coding.{decode-encode, encoded-fine}
-use Rattle.history.proofs.Modelled.{clock-encode}
-use Rattle.port.specs.declared.Answer.the-variants as answer
+use Rattle.port.specs.Answers.{steppedNumber, writtenOf}
+use Rattle.course.specs.Travel.{instantsOf, octetsOf, into}
+use Rattle.port.specs.Step.{stepDeclines, passes, reported, afterStep, StepsBy, Steps}
+use Rattle.port.proofs.Coding.{decode-encode, encoded-fine, clock-encode}
 use Rattle.lister.specs.declared.Listed.{Listed}
 use Rattle.lister.specs.declared.opening.Opened.{Opened}
 use Rattle.lister.specs.declared.strides.Strode.{Strode}
 use Rattle.lister.specs.declared.strides.Walked.{Walked}
-use Rattle.lister.specs.Opening.{opening}
+use Rattle.lister.specs.Opening.{stepsTo, opening}
 use Rattle.lister.specs.Lines.{changeLine, changeLines, refusedLine, firstLine, lastLine, spanLines, openingLines, listing}
 use Rattle.lister.specs.Pages.{clockOf, Ready, Fills, columnLines, goesOn, linesOf, Strides, Went, Walks, openedAs, Opens, Lists}
-use Rattle.lister.proofs.Opened.{clock-decode, declines-step}
+use Rattle.lister.proofs.Opened.{clock-decode, refused-told, declines-step}
 use Rattle.lister.proofs.Texts.{line-short, columns-lines, lines-append}
 
 -- a port that is ready
 
-goal-accepted : (end : ℕ) (m : model.Port) → end ≤ largestInstant → m .clock ≤ end → end - m .clock ≤ largestStep → accepted (firstOf (stepOrder end m)) ≡ true
+goal-accepted : (end : ℕ) (m : model.Port) → end ≤ largestInstant → m .gates .clock ≤ end → end - m .gates .clock ≤ largestStep → accepted (firstOf (stepsTo end m)) ≡ true
 unfolding stepOrder
 goal-accepted end m a b c = simp (le-ltb _ _ a, le-ltb _ _ b, le-ltb _ _ c)
 
 module _ (p : Port) (end : ℕ) (r : Ready p end) where
-  pub ready-passed : PassedGoal end (decode p)
+  pub ready-passed : PassedGoal end (decode p .gates)
   unfolding acceptsGoal
-  ready-passed = goal-passed end (decode p) (ap accepted (sym (declines-step p (r .fine) end)) ∙ r .goal)
+  ready-passed = goal-passed end (decode p .gates) (ap accepted (sym (declines-step p (r .fine) end)) ∙ r .goal)
 
   pub ready-ahead : clockOf p ≤ end
   ready-ahead = omega (arith, ready-passed .ahead, clock-decode p)
@@ -61,7 +62,7 @@ module _ (p : Port) (end : ℕ) (r : Ready p end) where
     decoded-on = ap decode e ∙ decode-encode (ticks machine k (decode p))
 
     clock-on : clockOf q ≡ clockOf p + k
-    clock-on = ap clockOf e ∙ clock-encode (ticks machine k (decode p)) ∙ clock-ticks machine k (decode p) ∙ ap (λ t. t + k) (clock-decode p)
+    clock-on = ap clockOf e ∙ clock-encode (ticks machine k (decode p)) ∙ clock-ticks machine lawful k (decode p) ∙ ap (λ t. t + k) (clock-decode p)
 
     module _ (h : clockOf p + k ≤ end) where
       pub fine-on : Fine q
@@ -72,7 +73,7 @@ module _ (p : Port) (end : ℕ) (r : Ready p end) where
       pub ready-on : Ready q end
       ready-on =
           let z = ready-passed in
-          let c : decode q .clock ≡ clockOf p + k = clock-decode q ∙ clock-on in
+          let c : decode q .gates .clock ≡ clockOf p + k = clock-decode q ∙ clock-on in
           record {
             fine = fine-on;
             goal =
@@ -81,19 +82,19 @@ module _ (p : Port) (end : ℕ) (r : Ready p end) where
           }
 
 -- no change has more than 24 octets
-noted-short : (b : Bool) (n : ℕ) (m : model.Port) (l : List (ℕ × ℕ)) → m .clock < 18_446_744_073_709_551_616 → length (changeLines l) ≤ 24 * n
+noted-short : (b : Bool) (n : ℕ) (m : model.Port) (l : List (ℕ × ℕ)) → m .gates .clock < 18_446_744_073_709_551_616 → length (changeLines l) ≤ 24 * n
     → length (changeLines (noted machine b m l)) ≤ 24 * suc n
 unfolding noted changeLines
 noted-short true n m l h s = omega arith
 noted-short false n m l h s =
-    omega (arith, s, line-short (m .clock) (model.shownNow m) h, length-append (changeLine (m .clock) (model.shownNow m)) (changeLines l))
+    omega (arith, s, line-short (m .gates .clock) (shownNow (m .gates)) h, length-append (changeLine (m .gates .clock) (shownNow (m .gates))) (changeLines l))
 
-log-short : (n : ℕ) (m : model.Port) → m .clock + n < 18_446_744_073_709_551_616 → length (changeLines (log machine n m)) ≤ 24 * n
+log-short : (n : ℕ) (m : model.Port) → m .gates .clock + n < 18_446_744_073_709_551_616 → length (changeLines (log machine n m)) ≤ 24 * n
 unfolding log changeLines
 log-short zero m h = omega arith
 log-short (suc n) m h =
-    let t : model.Port = model.tick m in
-    noted-short (eqb (model.shownNow m) (model.shownNow t)) n t (log machine n t) (omega (arith, clock-tick m)) (log-short n t (omega (arith, clock-tick m)))
+    let t : model.Port = model.portTick m in
+    noted-short (eqb (shownNow (m .gates)) (shownNow (t .gates))) n t (log machine n t) (omega (arith, lawful .clock-tick m)) (log-short n t (omega (arith, lawful .clock-tick m)))
 
 -- one stride
 
@@ -143,21 +144,13 @@ module _ (p : Port) (end : ℕ) (ready : Ready p end) (at at′ os os′ : List 
       (arith, ap length (stepped machine (end - clockOf p) 1024 (decode p) .first), length-take 1024 (log machine (end - clockOf p) (decode p)))
 
   stride-count : (n : ℕ) → s .answer ≡ stepAnswer.Written n → n ≡ length changes-far
-  stride-count n e = go (stepDeclines end p) (ready .goal) (sym e ∙ by-far .answer) ∙ ap length reported-far
-    where
-      go : (d : Option Refusal) → accepted d ≡ true → stepAnswer.Written n ≡ steppedOf d (length (reported p far)) → n ≡ length (reported p far)
-      go none q w = cc
-      go (some r) q w = absurd (true≢false (sym q))
+  stride-count n e = ap writtenOf (sym e) ∙ by-far .written ∙ ap length reported-far
 
   pub stride-fits : (n : ℕ) → s .answer ≡ stepAnswer.Written n → n ≤ 1024
   stride-fits n e = omega (arith, stride-count n e, few-far)
 
   pub stride-taken : (r : Refusal) → s .answer ≡ stepAnswer.Refused r → ⊥
-  stride-taken r e = go (stepDeclines end p) (ready .goal) (sym e ∙ by-far .answer)
-    where
-      go : (d : Option Refusal) → accepted d ≡ true → stepAnswer.Refused r ≡ steppedOf d (length (reported p far)) → ⊥
-      go none q w = let z : _≡_ {A = ℕ} 0 1 = cc in omega arith
-      go (some t) q w = true≢false (sym q)
+  stride-taken r e = true≢false (sym (ready .goal) ∙ ap accepted (refused-told (stepDeclines end p) r (sym (by-far .number) ∙ ap steppedNumber e)))
 
   -- the page
   pub stride-strides : clockOf p < end → (n : ℕ) → s .answer ≡ stepAnswer.Written n → (page page′ : List ℕ) (used : ℕ)
@@ -206,13 +199,13 @@ module _ (p q : Port) (end octets : ℕ) (w : Went p q end octets) where
       let j : ℕ = clockOf (t .port) - clockOf q in
       let e : clockOf (t .port) - clockOf p ≡ k + j = omega (arith, w .from, s .onward) in
       let d : decode q ≡ ticks machine k (decode p) = decoded-on p end (w .ready) q k (w .port) in
-      let l : linesOf p (k + j) ≡ _ = ap changeLines (log-add machine k j (decode p)) ∙ lines-append (log machine k (decode p)) (log machine j (ticks machine k (decode p))) in
+      let l : linesOf p (k + j) ≡ _ = ap changeLines (log-add machine lawful k j (decode p)) ∙ lines-append (log machine k (decode p)) (log machine j (ticks machine k (decode p))) in
       record {
         ready = w .ready;
         from = omega (arith, w .from, s .onward);
         upto = s .within;
         port =
-            s .port ∙ ap (λ m. encode (ticks machine j m)) d ∙ ap encode (sym (ticks-add machine k j (decode p))) ∙ ap (goesOn p) (sym e);
+            s .port ∙ ap (λ m. encode (ticks machine j m)) d ∙ ap encode (sym (ticks-add machine lawful k j (decode p))) ∙ ap (goesOn p) (sym e);
         count =
             ap₂ _+_ (w .count) (s .lines .count ∙ ap (λ m. length (changeLines (log machine j m))) d)
             ∙ sym (length-append (linesOf p k) (changeLines (log machine j (ticks machine k (decode p)))))

@@ -6,9 +6,10 @@ use mathlib.Core.List.{List, [], _∷_, _++_}
 use Prim.Native.Nat.{ℕ, _-_}
 use Rattle.rule.specs.declared.Refusal.{Refusal}
 use Rattle.rule.specs.Refusals.{numberOf}
-use Rattle.rule.specs.Port.{Port, shownNow}
+use Rattle.rule.specs.Timetable.{shownNow}
+use Rattle.rule.specs.Port.{Port}
 use Rattle.rule.specs.Machine.{ticks, log}
-use Rattle.rule.specs.PortMachine.{machine}
+use Rattle.rule.specs.Machines.{machine}
 use Rattle.text.specs.Decimal.{decimalOf}
 use Rattle.text.specs.Put.{hexOf}
 use Rattle.lister.specs.Opening.{Opening, refused, spans, opening}
@@ -56,10 +57,10 @@ endLine t octet errors = (((endWord ++ momentText t octet) ++ errorsWord) ++ dec
 
 -- the lines of a port's span of n instants
 abbrev pub firstLine : Port → List ℕ
-firstLine p = startLine (p .clock) (shownNow p)
+firstLine p = startLine (p .gates .clock) (shownNow (p .gates))
 
 abbrev pub lastLine : Port → List ℕ
-lastLine p = endLine (p .clock) (shownNow p) (p .errors)
+lastLine p = endLine (p .gates .clock) (shownNow (p .gates)) (p .gates .errors)
 
 unfoldable pub spanLines : ℕ → Port → List ℕ
 spanLines n p = firstLine p ++ (changeLines (log machine n p) ++ lastLine (ticks machine n p))
@@ -67,7 +68,7 @@ spanLines n p = firstLine p ++ (changeLines (log machine n p) ++ lastLine (ticks
 -- the listing of a sheet
 abbrev pub openingLines : Opening → List ℕ
 openingLines (refused r) = refusedLine r
-openingLines (spans p end) = spanLines (end - p .clock) p
+openingLines (spans p end) = spanLines (end - p .gates .clock) p
 
 unfoldable pub listing : List ℕ → List ℕ
 listing s = openingLines (opening s)

@@ -7,15 +7,16 @@ use mathlib.Core.List.{List, _++_}
 use mathlib.Core.Option.{Option, none, some}
 use Prim.Native.Nat.{ℕ}
 use lib.ListN.{drop}
+use Rattle.rule.specs.Limits.{largestStep}
 use Rattle.rule.specs.declared.Refusal.{Refusal}
 use Rattle.rule.specs.declared.Refusal.the-variants.{MalformedSheet}
 use Rattle.rule.specs.Refusals.{firstOf}
 use Rattle.rule.specs.Entries.{Entry}
 use Rattle.rule.specs.Port.{Port, newPort}
-use Rattle.rule.specs.Acts.{Act, on, submit, perform}
+use Rattle.rule.specs.Acts.{Act, gates, on, submit, perform}
 use Rattle.rule.specs.Orders.{actOrder, stepOrder, newOrder}
 use Rattle.gatelist.specs.Coding.{listFrom}
-use Rattle.gatelist.specs.Octets.{entryAt, readRefusal}
+use Rattle.octets.specs.Octets.{entryAt, readRefusal}
 use Rattle.sheet.specs.declared.Sheet.{Sheet}
 use Rattle.sheet.specs.declared.SheetRead.{SheetRead}
 use Rattle.sheet.specs.declared.SheetRead.the-variants as sheet
@@ -30,11 +31,11 @@ entriesOf s h = listFrom (entryAt (listOctets s h)) 0 (h .length)
 
 -- the acts of the listing
 abbrev pub switchOn : Act
-switchOn = on
+switchOn = gates on
 
 abbrev pub submits : Sheet → List Entry → Act
 submits h l =
-    submit (record { numerator = h .numerator; denominator = h .denominator; extension = h .extension; base = h .base; list = l })
+    gates (submit (record { numerator = h .numerator; denominator = h .denominator; extension = h .extension; base = h .base; list = l }))
 
 -- the port made at start; switched on; after the submission
 abbrev pub madePort : Sheet → Port
@@ -46,10 +47,14 @@ switchedPort h = perform switchOn (madePort h)
 abbrev pub submittedPort : Sheet → List Entry → Port
 submittedPort h l = perform (submits h l) (switchedPort h)
 
+-- the order of a step
+abbrev pub stepsTo : ℕ → Port → List (Bool × Refusal)
+stepsTo end p = stepOrder largestStep end (p .gates)
+
 -- the orders of the calls, one after the other: new, on, submit, step to the end
 unfoldable pub callsOrder : Sheet → List Entry → List (Bool × Refusal)
 callsOrder h l =
-    newOrder (h .start) ++ (actOrder switchOn (madePort h) ++ (actOrder (submits h l) (switchedPort h) ++ stepOrder (h .end) (submittedPort h l)))
+    newOrder (h .start) ++ (actOrder switchOn (madePort h) ++ (actOrder (submits h l) (switchedPort h) ++ stepsTo (h .end) (submittedPort h l)))
 
 -- a refusal, or the port after the submission and the end of the span
 pub data Opening : Type 0 where

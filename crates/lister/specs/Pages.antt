@@ -6,15 +6,16 @@ use mathlib.Core.Bool.{true}
 use mathlib.Core.List.{List, [], _++_}
 use Prim.Native.Nat.{ℕ, zero, suc, _-_, _≤_, _<_}
 use lib.ListN.{length, getD}
+use Rattle.rule.specs.declared.Answer.{Answer}
+use Rattle.rule.specs.declared.Answer.the-variants as answer
 use Rattle.rule.specs.Refusals.{accepted}
 use Rattle.rule.specs.Port as model
 use Rattle.rule.specs.Machine.{ticks, log}
-use Rattle.rule.specs.PortMachine.{machine}
+use Rattle.rule.specs.Machines.{machine}
 use Rattle.port.specs.declared.Port.{Port}
-use Rattle.port.specs.declared.Answer.{Answer}
-use Rattle.port.specs.declared.Answer.the-variants as answer
 use Rattle.port.specs.Coding.{decode, encode, Fine}
-use Rattle.port.specs.Step.{into, stepDeclines}
+use Rattle.course.specs.Travel.{into}
+use Rattle.port.specs.Step.{stepDeclines}
 use Rattle.lister.specs.declared.Listed.{Listed}
 use Rattle.lister.specs.declared.Listed.the-variants.{Whole, Cut}
 use Rattle.lister.specs.declared.opening.Opened.{Opened}
@@ -25,10 +26,10 @@ use Rattle.lister.specs.Lines.{changeLine, changeLines}
 
 -- where a record stands, and its ConfigChangeError
 abbrev pub clockOf : Port → ℕ
-clockOf p = p .clock
+clockOf p = p .gates .times .clock
 
 abbrev pub errorsOf : Port → ℕ
-errorsOf p = p .errors
+errorsOf p = p .gates .times .errors
 
 -- a sheet is opened: why there is no port, or a port that can go to the end of its span
 

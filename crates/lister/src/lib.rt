@@ -5,8 +5,8 @@ ghost use Prim.Native.Nat.{_-_};
 ghost use Rattle.port.specs.Coding.{decode};
 ghost use Rattle.lister.specs.Lines.{listing, refusedLine, spanLines};
 ghost use Rattle.lister.specs.Pages.{Lists, Ready, clockOf};
-use port::Answer;
 use port::Port;
+use rule::Answer;
 use rule::Refusal;
 
 mod lines;

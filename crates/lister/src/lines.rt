@@ -2,7 +2,7 @@
 ghost use mathlib.Core.Path.{_≡_};
 ghost use Prim.Native.Nat.{_+_, _≤_, _<_};
 ghost use lib.ListN.{length};
-ghost use Rattle.rule.specs.Port.{shownNow};
+ghost use Rattle.rule.specs.Timetable.{shownNow};
 ghost use Rattle.port.specs.Coding.{decode, Fine};
 ghost use Rattle.text.specs.Put.{Puts};
 ghost use Rattle.lister.specs.Lines.{momentText, changeLine, refusedLine, firstLine, lastLine};
@@ -15,14 +15,14 @@ use rule::Refusal;
 pub fn clock(p: Port) -> u64
     ensures { λ r. ⌜ r ≡ clockOf p ⌝ }
 {
-    p.clock
+    p.gates.times.clock
 }
 
 // A port's ConfigChangeError.
 fn errors(p: Port) -> u64
     ensures { λ r. ⌜ (r ≡ errorsOf p) × (r < 18446744073709551616) ⌝ }
 {
-    p.errors
+    p.gates.times.errors
 }
 
 // Puts an instant and an octet, with a space between.
@@ -57,7 +57,7 @@ pub fn put_refused(page: &mut [u8; 24576], r: Refusal) -> usize
 // The octet that a port shows at its clock.
 fn shown(p: Port) -> u8
     requires { ⌜ Fine p ⌝ }
-    ensures { λ r. ⌜ r ≡ shownNow (decode p) ⌝ }
+    ensures { λ r. ⌜ r ≡ shownNow (decode p .gates) ⌝ }
 {
     let t = clock(p);
     let l = p.look(t);

@@ -4,18 +4,18 @@ ghost use mathlib.Core.List.{_++_};
 ghost use lib.ListN.{drop};
 ghost use Rattle.rule.specs.Acts.{perform};
 ghost use Rattle.rule.specs.Refusals.{firstOf};
-ghost use Rattle.rule.specs.Orders.{actOrder, stepOrder};
+ghost use Rattle.rule.specs.Orders.{actOrder};
 ghost use Rattle.port.specs.Coding.{decode, Fine};
 ghost use Rattle.gatelist.specs.Coding.{listOf};
-ghost use Rattle.gatelist.specs.Octets.{readingOf, readList};
-ghost use Rattle.lister.specs.Opening.{opening, openingWith, refused as declined, spans, submits, unlessRefused};
+ghost use Rattle.octets.specs.Octets.{readingOf, readList};
+ghost use Rattle.lister.specs.Opening.{opening, openingWith, refused as declined, spans, stepsTo, submits, unlessRefused};
 ghost use Rattle.lister.specs.Pages.{Opens};
 use gatelist::GateList;
-use gatelist::ListRead;
-use gatelist::ReadAnswer;
-use port::Answer;
+use octets::ListRead;
+use octets::ReadAnswer;
 use port::Port;
 use port::StepAnswer;
+use rule::Answer;
 use rule::Refusal;
 use sheet::Sheet;
 use sheet::SheetRead;
@@ -45,15 +45,15 @@ fn list_at(s: &[u8], at: usize, stated: u64) -> ListRead
     ensures { λ r. ⌜ readingOf r ≡ readList (drop at (now (s .entry))) stated ⌝ }
 {
     if at <= s.len() {
-        return gatelist::read(&s[at..], stated);
+        return octets::read(&s[at..], stated);
     }
-    gatelist::read(&s[..0], stated)
+    octets::read(&s[..0], stated)
 }
 
 // The port with the end of its span, if a step to the end is accepted: one with no room writes nothing.
 fn with_end(p: Port, end: u64) -> Opened
     requires { ⌜ Fine p ⌝ }
-    ensures { λ r. ⌜ Opens (unlessRefused (firstOf (stepOrder end (decode p))) (spans (decode p) end)) r ⌝ }
+    ensures { λ r. ⌜ Opens (unlessRefused (firstOf (stepsTo end (decode p))) (spans (decode p) end)) r ⌝ }
 {
     let mut instants = [0u64; 1];
     let mut octets = [0u8; 1];
@@ -72,7 +72,7 @@ fn with_end(p: Port, end: u64) -> Opened
 // A port that is switched on is submitted to.
 fn submitted(p: Port, h: Sheet, list: GateList) -> Opened
     requires { ⌜ Fine p ⌝ }
-    ensures { λ r. ⌜ Opens (unlessRefused (firstOf (actOrder (submits h (listOf list)) (decode p) ++ stepOrder (h .end) (perform (submits h (listOf list)) (decode p)))) (spans (perform (submits h (listOf list)) (decode p)) (h .end))) r ⌝ }
+    ensures { λ r. ⌜ Opens (unlessRefused (firstOf (actOrder (submits h (listOf list)) (decode p) ++ stepsTo (h .end) (perform (submits h (listOf list)) (decode p)))) (spans (perform (submits h (listOf list)) (decode p)) (h .end))) r ⌝ }
 {
     let done = p.submit(list, h.numerator, h.denominator, h.extension, h.base);
     let a = done.answer;

@@ -4,15 +4,17 @@
 -- Assumes nothing.
 use mathlib.Core.Path.{_≡_, refl, ap, sym, _∙_}
 use mathlib.Core.Bool.{Bool, true, false, cond}
-use mathlib.Core.Option.{none, some}
+use mathlib.Core.Option.{Option, none, some}
 use Prim.Native.Nat.{ℕ}
 use native.Mathlib.Omega.{arith}
 use lib.Dec.{ltb}
 use borrow.Author.Tests.{ltb-false}
 use Rattle.rule.specs.Limits.{largestInstant}
+use Rattle.rule.specs.declared.Refusal.{Refusal}
 use Rattle.rule.specs.declared.Refusal.the-variants.{AboveLargest}
-use Rattle.rule.specs.Refusals.{firstOf, accepted}
-use Rattle.rule.specs.Port.{newPort, shown}
+use Rattle.rule.specs.Refusals.{firstOf, accepted, answerOf, numbered}
+use Rattle.rule.specs.Timetable.{shown}
+use Rattle.rule.specs.Port.{newPort}
 use Rattle.rule.specs.Acts.{Act, perform}
 use Rattle.rule.specs.Orders.{actOrder, lookOrder, newOrder, accepts}
 use Rattle.rule.proofs.Sound.{sound-new, sound-perform}
@@ -21,10 +23,9 @@ use Rattle.port.specs.declared.Acted.{Acted}
 use Rattle.port.specs.declared.Looked.{Looked}
 use Rattle.port.specs.Record.{wellFormed}
 use Rattle.port.specs.Coding.{decode, encode, Fine}
-use Rattle.port.specs.Answers.{answerOf, lookedOf}
-use Rattle.port.specs.Acts.{declines, after, Performs, lookDeclines, Looks, zeroPort, Makes}
+use Rattle.port.specs.Acts.{declines, after, Performs, lookDeclines, Looks, Makes}
+use Rattle.port.proofs.Numbers.{number-of, answer-told, lookedOf, looked-number, looked-octet, looked-told}
 use Rattle.port.proofs.Coding.{decode-encode, formed}
-use Rattle.port.proofs.Performing.{zero-port}
 
 -- an act
 
@@ -37,29 +38,45 @@ module _ (p : Port) (w : wellFormed p ≡ true) (a : Act) where
   unfolding after accepts
   after-is = ap (λ o. cond (accepted o) (encode (perform a (decode p))) p) declines-is
 
-  -- its answer is the rule's, and the record after it stands for the port after it
-  pub act-carried : (r : Acted) → Performs a p r
-      → (r .answer ≡ answerOf (firstOf (actOrder a (decode p)))) × (decode (r .port) ≡ cond (accepts a (decode p)) (perform a (decode p)) (decode p))
-  act-carried r k = (k .answer ∙ ap answerOf declines-is, ap decode (k .port ∙ after-is) ∙ go (accepts a (decode p)))
+  -- the record after it stands for the port after it
+  pub port-carried : (q : Port) → q ≡ after a p → decode q ≡ cond (accepts a (decode p)) (perform a (decode p)) (decode p)
+  port-carried q k = ap decode (k ∙ after-is) ∙ go (accepts a (decode p))
     where
       go : (b : Bool) → decode (cond b (encode (perform a (decode p))) p) ≡ cond b (perform a (decode p)) (decode p)
       go true = decode-encode (perform a (decode p))
       go false = refl
 
-  -- and it is well formed
-  pub act-formed : Fine p → (r : Acted) → Performs a p r → wellFormed (r .port) ≡ true
-  act-formed f r k = ap wellFormed (k .port ∙ after-is) ∙ go (accepts a (decode p)) refl
+  -- and is well formed
+  pub port-formed : Fine p → (q : Port) → q ≡ after a p → wellFormed q ≡ true
+  port-formed f q k = ap wellFormed (k ∙ after-is) ∙ go (accepts a (decode p)) refl
     where
       go : (b : Bool) → accepts a (decode p) ≡ b → wellFormed (cond b (encode (perform a (decode p))) p) ≡ true
       go true e = formed (perform a (decode p)) (sound-perform a (decode p) e (f .sound))
       go false e = w
 
+  -- its answer is the rule's
+  pub act-carried : (r : Acted) → Performs a p r
+      → (r .answer ≡ answerOf (firstOf (actOrder a (decode p)))) × (decode (r .port) ≡ cond (accepts a (decode p)) (perform a (decode p)) (decode p))
+  act-carried r k =
+      let o : Option Refusal = firstOf (actOrder a (decode p)) in
+      (answer-told (r .answer) (answerOf o) (k .number ∙ ap numbered declines-is ∙ sym (number-of o)), port-carried (r .port) (k .port))
+
+  pub act-formed : Fine p → (r : Acted) → Performs a p r → wellFormed (r .port) ≡ true
+  act-formed f r k = port-formed f (r .port) (k .port)
+
 -- a look
 
-pub look-carried : (p : Port) → wellFormed p ≡ true → (t : ℕ) (r : Looked) → Looks p t r
-    → r ≡ lookedOf (firstOf (lookOrder t (decode p))) (shown (decode p) t)
-unfolding lookDeclines
-look-carried p w t r k = k ∙ rw w
+module _ (p : Port) (w : wellFormed p ≡ true) (t : ℕ) where
+  look-declines : lookDeclines t p ≡ firstOf (lookOrder t (decode p .gates))
+  unfolding lookDeclines
+  look-declines = rw w
+
+  pub look-carried : (r : Looked) → Looks p t r → r ≡ lookedOf (firstOf (lookOrder t (decode p .gates))) (shown (decode p .gates) t)
+  look-carried r k =
+      let o : Option Refusal = firstOf (lookOrder t (decode p .gates)) in
+      let octet : ℕ = shown (decode p .gates) t in
+      looked-told r (lookedOf o octet) (k .number ∙ ap numbered look-declines ∙ sym (looked-number o octet))
+      (k .octet ∙ ap (λ d. cond (accepted d) octet 0) look-declines ∙ sym (looked-octet o octet))
 
 -- a new port
 
@@ -72,6 +89,7 @@ module _ (start octet : ℕ) (r : Acted) (k : Makes start octet r) where
   unfolding newOrder
   new-formed = ap wellFormed (k .port) ∙ go (ltb largestInstant start) refl
     where
-      go : (b : Bool) → ltb largestInstant start ≡ b → wellFormed (cond (accepted (cond b (some AboveLargest) none)) (encode (newPort start octet)) zeroPort) ≡ true
-      go true e = ap wellFormed (sym zero-port) ∙ formed (newPort 0 0) (sound-new 0 0 (omega arith))
+      go : (b : Bool) → ltb largestInstant start ≡ b
+          → wellFormed (cond (accepted (cond b (some AboveLargest) none)) (encode (newPort start octet)) (encode (newPort 0 0))) ≡ true
+      go true e = formed (newPort 0 0) (sound-new 0 0 (omega arith))
       go false e = formed (newPort start octet) (sound-new start octet (ltb-false largestInstant start e))

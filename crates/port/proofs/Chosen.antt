@@ -11,51 +11,47 @@ use mathlib.Core.Option.{Option, none, some}
 use Prim.Native.Nat.{ℕ, _+_, _<_}
 use native.Mathlib.Omega.{arith}
 use lib.ListN.{getD}
+use Rattle.rule.specs.declared.Refusal.{Refusal}
+use Rattle.rule.specs.Timetable.{shownNow}
 use Rattle.rule.specs.Port as model
 use Rattle.rule.specs.Choice.{duration, lookAhead, qualifies}
 use Rattle.rule.specs.Acts.{transmit, performed, perform, isSome}
 use Rattle.rule.specs.Orders.{accepts}
 use Rattle.rule.proofs.Choice.{Highest, Chosen, chosen-is, chosen-none}
+use Rattle.frames.specs.declared.Choice.the-variants as choice
+use Rattle.frames.specs.Decision.{choiceOf}
+use Rattle.frames.proofs.Unique.{choice-told}
 use Rattle.port.specs.declared.Port.{Port}
-use Rattle.port.specs.declared.Acted.{Acted}
-use Rattle.port.specs.declared.Choice.the-variants as choice
 use Rattle.port.specs.declared.Transmitted.{Transmitted}
 use Rattle.port.specs.Record.{wellFormed}
 use Rattle.port.specs.Coding.{decode, Fine}
-use Rattle.port.specs.Answers.{answerOf, choiceOf}
-use Rattle.port.specs.Acts.{declines, Performs}
+use Rattle.port.specs.Acts.{declines}
 use Rattle.port.specs.Transmit.{Transmits}
-use Rattle.port.proofs.Carried.{act-carried, act-formed}
+use Rattle.port.proofs.Numbers.{choice-number}
+use Rattle.port.proofs.Carried.{port-carried, port-formed}
 
 module _ (heads : List ℕ) (speed : ℕ) (p : Port) (r : Transmitted) (k : Transmits heads speed p r) where
-  -- the outcome of the act: its answer but for the frame, and its port
-  acted : Acted
-  acted = record { answer = answerOf (declines (transmit heads speed) p); port = r .port }
-
-  performs : Performs (transmit heads speed) p acted
-  unfolding acted
-  performs = record { answer = refl; port = k .port }
-
   module _ (w : wellFormed p ≡ true) where
     pub transmit-carried : decode (r .port) ≡ cond (accepts (transmit heads speed) (decode p)) (perform (transmit heads speed) (decode p)) (decode p)
-    unfolding acted
-    transmit-carried = act-carried p w (transmit heads speed) acted performs .1
+    transmit-carried = port-carried p w (transmit heads speed) (r .port) (k .port)
 
     pub transmit-formed : Fine p → wellFormed (r .port) ≡ true
-    unfolding acted
-    transmit-formed f = act-formed p w (transmit heads speed) f acted performs
+    transmit-formed f = port-formed p w (transmit heads speed) f (r .port) (k .port)
 
   -- the class qualifies now, on the record
   abbrev pub qualifiesNow : ℕ → Bool
-  qualifiesNow = qualifies heads speed (decode p .clock) (model.shownNow (decode p)) (lookAhead (decode p))
+  qualifiesNow = qualifies heads speed (decode p .gates .clock) (shownNow (decode p .gates)) (lookAhead (decode p .gates))
 
   module _ (e : declines (transmit heads speed) p ≡ none) where
     answered : r .answer ≡ choiceOf none (performed (transmit heads speed) (decode p) .frame)
-    answered = k .answer ∙ ap (λ o. choiceOf o (performed (transmit heads speed) (decode p) .frame)) e
+    answered =
+        let o : Option Refusal = declines (transmit heads speed) p in
+        let f : Option model.Frame = performed (transmit heads speed) (decode p) .frame in
+        choice-told (r .answer) (choiceOf o f) (k .number ∙ sym (choice-number o f)) (k .values) ∙ ap (λ d. choiceOf d f) e
 
     pub chooses-none : (r .answer ≡ choice.Nothing) ↔ ((j : ℕ) → j < 8 → qualifiesNow j ≡ false)
     chooses-none =
-        let c = chosen-none heads speed (decode p .clock) (model.shownNow (decode p)) (lookAhead (decode p)) in (
+        let c = chosen-none heads speed (decode p .gates .clock) (shownNow (decode p .gates)) (lookAhead (decode p .gates)) in (
           λ a. c .0 (empty (performed (transmit heads speed) (decode p) .frame) (sym answered ∙ a)),
           λ f. answered ∙ nothing (performed (transmit heads speed) (decode p) .frame) (c .1 f),
         )
@@ -69,8 +65,8 @@ module _ (heads : List ℕ) (speed : ℕ) (p : Port) (r : Transmitted) (k : Tran
         nothing (some f) q = let z : _≡_ {A = ℕ} 0 1 = cc in absurd (omega arith)
 
     module _ (class start end : ℕ) (a : r .answer ≡ choice.Frame class start end) where
-      framed : (o : Option model.Frame) → choiceOf none o ≡ choice.Frame class start end → Chosen heads speed (decode p .clock) qualifiesNow o
-          → Highest qualifiesNow 8 (some class) × ((start ≡ decode p .clock) × (end ≡ decode p .clock + duration (getD heads class 0) speed))
+      framed : (o : Option model.Frame) → choiceOf none o ≡ choice.Frame class start end → Chosen heads speed (decode p .gates .clock) qualifiesNow o
+          → Highest qualifiesNow 8 (some class) × ((start ≡ decode p .gates .clock) × (end ≡ decode p .gates .clock + duration (getD heads class 0) speed))
       framed none q c = let z : _≡_ {A = ℕ} 0 1 = cc in absurd (omega arith)
       framed (some f) q c =
           let x : f .class ≡ class = cc in
@@ -79,16 +75,16 @@ module _ (heads : List ℕ) (speed : ℕ) (p : Port) (r : Transmitted) (k : Tran
             subst (λ n. Highest qualifiesNow 8 (some n)) x (c .0),
             (
               sym y ∙ ap (λ (g : model.Frame). g .start) (c .1),
-              sym z ∙ ap (λ (g : model.Frame). g .end) (c .1) ∙ ap (λ n. decode p .clock + duration (getD heads n 0) speed) x,
+              sym z ∙ ap (λ (g : model.Frame). g .end) (c .1) ∙ ap (λ n. decode p .gates .clock + duration (getD heads n 0) speed) x,
             ),
           )
 
       pub chooses-highest : Highest qualifiesNow 8 (some class)
       chooses-highest =
           framed (performed (transmit heads speed) (decode p) .frame) (sym answered ∙ a)
-          (chosen-is heads speed (decode p .clock) (model.shownNow (decode p)) (lookAhead (decode p))) .0
+          (chosen-is heads speed (decode p .gates .clock) (shownNow (decode p .gates)) (lookAhead (decode p .gates))) .0
 
-      pub chooses-frame : (start ≡ decode p .clock) × (end ≡ decode p .clock + duration (getD heads class 0) speed)
+      pub chooses-frame : (start ≡ decode p .gates .clock) × (end ≡ decode p .gates .clock + duration (getD heads class 0) speed)
       chooses-frame =
           framed (performed (transmit heads speed) (decode p) .frame) (sym answered ∙ a)
-          (chosen-is heads speed (decode p .clock) (model.shownNow (decode p)) (lookAhead (decode p))) .1
+          (chosen-is heads speed (decode p .gates .clock) (shownNow (decode p .gates)) (lookAhead (decode p .gates))) .1

@@ -1,74 +1,73 @@
--- The overrun test on a record: a frame whose gate is shut (`shut-is`), its class (`class-fine`), and the record with the frame marked and counted
--- (`mark-other`, `none-sent`, `mark-yes`).
+-- The overrun test on a record: a frame whose gate is shut (`shut-is`), and the record after the test (`tested-none`, `tested-is`).
 -- Assumes nothing.
 use mathlib.Core.Path.{_≡_, refl, ap, sym, _∙_}
 use mathlib.Core.Bool.{Bool, true, false, not, _&&_}
 use mathlib.Core.List.{List}
-use Prim.Native.Nat.{ℕ, _≤_}
+use mathlib.Core.Option.{Option, none, some}
+use Prim.Native.Nat.{ℕ}
 use native.Mathlib.Omega.{arith}
-use lib.ListN.{set, getD}
+use lib.Dec.{ltb}
+use borrow.Author.Tests.{ne-eqb}
 use Rattle.rule.specs.Gates.{isOpen}
-use Rattle.rule.specs.Sound.{SoundFrame}
+use Rattle.rule.specs.Timetable.{shown, shownNow}
 use Rattle.rule.specs.Port as model
-use Rattle.rule.proofs.Jump.{marked-no, counted-no}
+use Rattle.timetable.specs.Record.{isMarked}
+use Rattle.timetable.specs.Coding as timetable
+use Rattle.frames.specs.declared.Frame.{Frame}
+use Rattle.timetable.specs.Coding.{present}
+use Rattle.frames.specs.Frame.{sentFrame, decodeFrame, encodeFrame}
 use Rattle.port.specs.declared.Port.{Port}
-use Rattle.port.specs.declared.Frame.{Frame}
-use Rattle.port.specs.Coding.{present, decodeFrame, encodeFrame, decode, encode, Fine}
-use Rattle.port.specs.Answers.{doneWith}
-use Rattle.port.specs.Updates.{withFrame, raised, withMark}
+use Rattle.port.specs.Coding.{decode, encode, Fine}
+use Rattle.port.specs.Updates.{markedFrame, countedFor}
+use Rattle.port.proofs.Coding.{gates-fine, frame-part}
+use Rattle.port.proofs.Sending.{marked-is, counted-is}
 
-pub shut-is : (f : Frame) (octet : ℕ)
-    → f .present && (not (f .counted) && not (isOpen octet (f .class))) ≡ model.overran octet (present (f .present) (decodeFrame f))
-shut-is f octet = go (f .present)
+pub shut-is : (f : Frame) (octet t : ℕ)
+    → isMarked (f .present) && (not (isMarked (f .counted)) && (ltb t (f .end) && not (isOpen octet (f .class)))) ≡ model.overran t octet (decodeFrame f)
+unfolding decodeFrame model.lastOctetAt
+shut-is f octet t = go (isMarked (f .present))
   where
-    go : (b : Bool) → b && (not (f .counted) && not (isOpen octet (f .class))) ≡ model.overran octet (present b (decodeFrame f))
+    go : (b : Bool) → b && (not (isMarked (f .counted)) && (ltb t (f .end) && not (isOpen octet (f .class)))) ≡ model.overran t octet (present b (sentFrame f))
     go true = refl
     go false = refl
 
-mark-same : (b : Bool) (m : model.Port) → model.marked b (m .frame) ≡ m .frame → model.counted b (m .frame) (m .overruns) ≡ m .overruns → withMark b m ≡ m
-mark-same b m e d i = record {
-  clock = m .clock;
-  on = m .on;
-  standing = m .standing;
-  operating = m .operating;
-  waiting = m .waiting;
-  frame = e i;
-  errors = m .errors;
-  overruns = d i;
-}
+-- a port with no frame
+
+some-none : (f : model.Frame) → some f ≡ none → ⊥
+some-none f q = let z : _≡_ {A = ℕ} 0 1 = cc in absurd (omega arith)
+
+-- a port with this frame
+abbrev sending : model.Port → Option model.Frame → model.Port
+sending m f = record { gates = m .gates; frame = f; overruns = m .overruns }
+
+tested-still : (m : model.Port) → m .frame ≡ none → model.tested m ≡ m
+tested-still m e = go (m .frame) e
+  where
+    go : (f : Option model.Frame) → f ≡ none → model.tested (sending m f) ≡ sending m f
+    go none q = refl
+    go (some f) q = absurd (some-none f q)
 
 module _ (p : Port) (k : Fine p) where
-  pub class-fine : p .frame .class ≤ 7
-  unfolding encode decode
-  class-fine =
-      let e : encodeFrame (present (p .frame .present) (decodeFrame (p .frame))) .class ≡ p .frame .class = ap (λ (q : Port). q .frame .class) (k .whole) in
-      go (p .frame .present) e (k .sound .frame)
-    where
-      go : (b : Bool) → encodeFrame (present b (decodeFrame (p .frame))) .class ≡ p .frame .class
-          → SoundFrame (p .clock) (present b (decodeFrame (p .frame))) → p .frame .class ≤ 7
-      go true e s = s .class
-      go false e s = omega arith
+  -- with no frame being sent the test changes nothing
+  none-there : (p .frame .present ≡ 1 → ⊥) → decodeFrame (p .frame) ≡ none
+  unfolding decodeFrame
+  none-there e = rw (ne-eqb (p .frame .present) 1 e)
 
-  pub mark-other : (b : Bool) → b && p .frame .present ≡ false → p ≡ encode (withMark b (decode p))
+  frame-none : (p .frame .present ≡ 1 → ⊥) → decode p .frame ≡ none
   unfolding decode
-  mark-other false e =
-      sym (ap encode (mark-same false (decode p) (marked-no (decode p .frame)) (counted-no (decode p .frame) (p .overruns))) ∙ k .whole)
-  mark-other true e = sym (ap encode (mark-same true (decode p) (rw e) (rw e)) ∙ k .whole)
+  frame-none e = none-there e
 
-  -- with no frame being sent the overrun test changes nothing
-  pub none-sent : p .frame .present ≡ false → doneWith p ≡ doneWith (encode (model.tested (decode p)))
-  none-sent e = ap doneWith (mark-other (model.overran (model.shownNow (decode p)) (decode p .frame)) (go (model.overran (model.shownNow (decode p)) (decode p .frame))))
-    where
-      go : (b : Bool) → b && p .frame .present ≡ false
-      go true = e
-      go false = refl
+  pub tested-none : (p .frame .present ≡ 1 → ⊥) → p ≡ encode (model.tested (decode p))
+  tested-none e = sym (ap encode (tested-still (decode p) (frame-none e)) ∙ k .whole)
 
-  pub mark-yes : p .frame .present ≡ true → raised p ≡ encode (withMark true (decode p))
-  unfolding encode decode
-  mark-yes e =
-      let f : Frame = p .frame in
-      let n : List ℕ = set (p .overruns) (f .class) (model.raise (getD (p .overruns) (f .class) 0)) in
-      ap (λ v. withFrame (record { present = v; class = f .class; start = f .start; end = f .end; counted = true }) n p) e
-      ∙ ap (withFrame (record { present = true; class = f .class; start = f .start; end = f .end; counted = true }) n) (sym (k .whole))
-      ∙ ap (λ v. withFrame (encodeFrame (model.marked true (present v (decodeFrame f)))) (model.counted true (present v (decodeFrame f)) (p .overruns))
-      (encode (decode p))) (sym e)
+  pub tested-is : (octet : ℕ) → octet ≡ shown (timetable.decode (p .gates)) (p .gates .times .clock) → (b : Bool)
+      → b ≡ model.overran (p .gates .times .clock) octet (decodeFrame (p .frame)) → (f : Frame) → f ≡ markedFrame b (p .frame)
+      → (v : List ℕ) → v ≡ countedFor b (p .frame) (p .overruns) → record { frame = f; gates = p .gates; overruns = v } ≡ encode (model.tested (decode p))
+  unfolding decode encode shownNow timetable.decode
+  tested-is octet o b e f i v j =
+      let t : ℕ = p .gates .times .clock in
+      let z = frame-part p k in
+      let c : b ≡ model.overran t (shown (timetable.decode (p .gates)) t) (decodeFrame (p .frame)) = e ∙ ap (λ n. model.overran t n (decodeFrame (p .frame))) o in
+      let x = i ∙ marked-is b (p .frame) t z ∙ ap (λ q. encodeFrame (model.marked q (decodeFrame (p .frame)))) c in
+      let y = j ∙ counted-is b (p .frame) t (p .overruns) z ∙ ap (λ q. model.counted q (decodeFrame (p .frame)) (p .overruns)) c in
+      λ n. record { frame = x n; gates = sym (gates-fine p k .whole) n; overruns = y n }

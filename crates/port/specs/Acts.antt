@@ -2,25 +2,27 @@
 -- order of the call; a refused act hands back the record that it got, a refused `new` the record of all zeros.
 -- Assumes nothing.
 use mathlib.Core.Path.{_≡_}
-use mathlib.Core.Bool.{Bool, cond, not, false}
+use mathlib.Core.Bool.{Bool, cond, not}
 use mathlib.Core.List.{List, _∷_}
 use mathlib.Core.Option.{Option}
 use Prim.Native.Nat.{ℕ}
-use lib.ListN.{replicate}
+use Rattle.rule.specs.declared.Answer.the-variants as answer
 use Rattle.rule.specs.declared.Refusal.{Refusal}
 use Rattle.rule.specs.declared.Refusal.the-variants.{MalformedPort}
-use Rattle.rule.specs.Refusals.{firstOf, accepted}
-use Rattle.rule.specs.Port.{newPort, shown}
+use Rattle.rule.specs.Refusals.{firstOf, accepted, numbered, answerNumber}
+use Rattle.rule.specs.Timetable.{shown}
+use Rattle.rule.specs.Port.{newPort}
 use Rattle.rule.specs.Acts.{Act, Submission, perform}
 use Rattle.rule.specs.Orders.{actOrder, lookOrder, newOrder}
 use Rattle.gatelist.specs.declared.GateList.{GateList}
 use Rattle.gatelist.specs.Coding.{listOf}
+use Rattle.submission.specs.Judgement.{submissionOf}
 use Rattle.port.specs.declared.Port.{Port}
 use Rattle.port.specs.declared.Acted.{Acted}
 use Rattle.port.specs.declared.Looked.{Looked}
 use Rattle.port.specs.Record.{wellFormed}
-use Rattle.port.specs.Coding.{decode, encode, noConfig, noWaiting, noFrame}
-use Rattle.port.specs.Answers.{answerOf, lookedOf}
+use Rattle.port.specs.Coding.{decode, encode}
+use Rattle.port.specs.Answers.{lookedNumber, lookedOctet}
 
 -- 14, then an order
 abbrev pub formedFirst : Port → List (Bool × Refusal) → Option Refusal
@@ -35,38 +37,31 @@ unfoldable pub after : Act → Port → Port
 after a p = cond (accepted (declines a p)) (encode (perform a (decode p))) p
 
 pub record Performs (a : Act) (p : Port) (r : Acted) : Type 0 where
-  pub answer : r .answer ≡ answerOf (declines a p)
+  pub number : answerNumber (r .answer) ≡ numbered (declines a p)
   pub port : r .port ≡ after a p
 
 -- what is submitted: the list record, the cycle's numerator and denominator, the extension, the base time
 abbrev pub submission : GateList → ℕ → ℕ → ℕ → ℕ → Submission
-submission list numerator denominator extension base =
-    record { numerator = numerator; denominator = denominator; extension = extension; base = base; list = listOf list }
+submission list numerator denominator extension base = submissionOf (listOf list) numerator denominator extension base
+
+-- an answer with the port that is handed back
+abbrev pub doneWith : Port → Acted
+doneWith p = record { answer = answer.Done; port = p }
+
+abbrev pub refusedWith : Refusal → Port → Acted
+refusedWith r p = record { answer = answer.Refused r; port = p }
 
 -- a look
 
 unfoldable pub lookDeclines : ℕ → Port → Option Refusal
-lookDeclines t p = formedFirst p (lookOrder t (decode p))
+lookDeclines t p = formedFirst p (lookOrder t (decode p .gates))
 
-abbrev pub Looks : Port → ℕ → Looked → Type 0
-Looks p t r = r ≡ lookedOf (lookDeclines t p) (shown (decode p) t)
+pub record Looks (p : Port) (t : ℕ) (r : Looked) : Type 0 where
+  pub number : lookedNumber r ≡ numbered (lookDeclines t p)
+  pub octet : lookedOctet r ≡ cond (accepted (lookDeclines t p)) (shown (decode p .gates) t) 0
 
 -- a new port
 
-abbrev pub zeroPort : Port
-zeroPort = record {
-  frame = noFrame;
-  clock = 0;
-  on = false;
-  standing = 0;
-  operates = false;
-  operating = noConfig;
-  waits = false;
-  waiting = noWaiting;
-  errors = 0;
-  overruns = replicate 8 0;
-}
-
 pub record Makes (start standing : ℕ) (r : Acted) : Type 0 where
-  pub answer : r .answer ≡ answerOf (firstOf (newOrder start))
-  pub port : r .port ≡ cond (accepted (firstOf (newOrder start))) (encode (newPort start standing)) zeroPort
+  pub number : answerNumber (r .answer) ≡ numbered (firstOf (newOrder start))
+  pub port : r .port ≡ cond (accepted (firstOf (newOrder start))) (encode (newPort start standing)) (encode (newPort 0 0))

@@ -3,13 +3,6 @@ pub mod Coding
 pub mod Answers
 pub mod Acts
 pub mod Updates
-pub mod Regime
-pub mod Submit
+pub mod Meeting
 pub mod Step
-pub mod Walk
-pub mod Cursor
-pub mod Stretch
-pub mod Round
-pub mod Ahead
-pub mod Choosing
 pub mod Transmit

@@ -2,31 +2,23 @@
 -- frame that it answers is the one that the act begins.
 -- Assumes nothing.
 use mathlib.Core.Path.{_≡_}
-use mathlib.Core.Bool.{Bool, not}
-use mathlib.Core.List.{List, [], _∷_}
-use mathlib.Core.Option.{Option}
+use mathlib.Core.List.{List}
 use Prim.Native.Nat.{ℕ}
-use Rattle.rule.specs.declared.Refusal.{Refusal}
-use Rattle.rule.specs.declared.Refusal.the-variants.{MalformedPort, Speed, FrameSending, HeadLength}
-use Rattle.rule.specs.Refusals.{firstOf}
+use Rattle.rule.specs.Refusals.{numbered}
 use Rattle.rule.specs.Acts.{transmit, performed}
+use Rattle.frames.specs.Decision.{choiceNumber, choiceValues, choiceOf}
 use Rattle.port.specs.declared.Port.{Port}
 use Rattle.port.specs.declared.Transmitted.{Transmitted}
 use Rattle.port.specs.Coding.{decode}
-use Rattle.port.specs.Answers.{choiceOf}
 use Rattle.port.specs.Acts.{declines, after}
 use Rattle.port.specs.Updates.{withFrame}
 
 pub record Transmits (heads : List ℕ) (speed : ℕ) (p : Port) (r : Transmitted) : Type 0 where
-  pub answer : r .answer ≡ choiceOf (declines (transmit heads speed) p) (performed (transmit heads speed) (decode p) .frame)
+  pub number : choiceNumber (r .answer) ≡ numbered (declines (transmit heads speed) p)
+  pub values : choiceValues (r .answer) ≡ choiceValues (choiceOf (declines (transmit heads speed) p) (performed (transmit heads speed) (decode p) .frame))
   pub port : r .port ≡ after (transmit heads speed) p
 
 -- and so nothing but the frame changes: the gate of a chosen class is open, and the overrun test finds nothing
 pub record Stores (heads : List ℕ) (speed : ℕ) (p : Port) (r : Transmitted) : Type 0 where
   pub transmits : Transmits heads speed p r
-  pub rest : r .port ≡ withFrame (r .port .frame) (p .overruns) p
-
--- the order over its tests: private to the crate
-unfoldable pub transmitRefusal : Bool → Bool → Bool → Bool → Option Refusal
-transmitRefusal formed speed sending wrong =
-    firstOf ((not formed, MalformedPort) ∷ (not speed, Speed) ∷ (sending, FrameSending) ∷ (wrong, HeadLength) ∷ [])
+  pub rest : r .port ≡ withFrame (r .port .frame) p

@@ -4,46 +4,31 @@ ghost use Rattle.rule.specs.declared.Refusal.the-variants.{MalformedPort};
 ghost use Rattle.rule.specs.Port as port;
 ghost use Rattle.rule.specs.Acts as model;
 ghost use Rattle.port.specs.Coding.{decode, encode, Fine};
-ghost use Rattle.port.specs.Answers.{refusedWith, doneWith};
-ghost use Rattle.port.specs.Acts.{Performs, Makes};
-ghost use Rattle.port.specs.Updates.{withGates, cleared};
+ghost use Rattle.port.specs.Acts.{refusedWith, doneWith, Performs, Makes};
+ghost use Rattle.port.specs.Updates.{withGates};
+ghost use Rattle.timetable.specs.Updates.{withTimes};
 use crate::Acted;
-use crate::Answer;
 use crate::Port;
 use crate::overrun::tested;
 use crate::record::fresh;
-use crate::record::no_config;
-use crate::record::no_waiting;
 use crate::record::well_formed;
+use rule::Answer;
 use rule::Refusal;
+use timetable::Times;
 
-// The port with another mark and standing octet.
-fn with_gates(p: Port, on: bool, octet: u8) -> Port
-    ensures { λ r. ⌜ r ≡ withGates on octet p ⌝ }
+// The port with other numbers of its timetable.
+fn with_times(p: Port, x: Times) -> Port
+    ensures { λ r. ⌜ r ≡ withGates (withTimes x (p .gates)) p ⌝ }
 {
+    let mut g = p.gates;
+    g.times = x;
     let mut q = p;
-    q.on = on;
-    q.standing = octet;
-    q
-}
-
-// The port off, with what operates and what waits discarded.
-fn switched_off(p: Port) -> Port
-    ensures { λ r. ⌜ r ≡ cleared p ⌝ }
-{
-    let none = no_config();
-    let nothing = no_waiting();
-    let mut q = p;
-    q.on = false;
-    q.operates = false;
-    q.operating = none;
-    q.waits = false;
-    q.waiting = nothing;
+    q.gates = g;
     q
 }
 
 // The answer to a malformed port.
-pub fn malformed(p: Port) -> Acted
+fn malformed(p: Port) -> Acted
     ensures { λ r. ⌜ r ≡ refusedWith MalformedPort p ⌝ }
 {
     Acted {
@@ -85,34 +70,44 @@ impl Port {
 
     // Sets the mark, also if it is set. Refused: 14.
     pub fn on(self) -> Acted
-        ensures { λ r. ⌜ Performs model.on self r ⌝ }
+        ensures { λ r. ⌜ Performs (model.gates model.on) self r ⌝ }
     {
         if !well_formed(self) {
             return malformed(self);
         }
-        let p = with_gates(self, true, self.standing);
+        let x = self.gates.times;
+        let y = Times { on: 1, ..x };
+        let p = with_times(self, y);
         done(p)
     }
 
     // Clears the mark, and discards the operating and the waiting configuration for good. Refused: 14.
     pub fn off(self) -> Acted
-        ensures { λ r. ⌜ Performs model.off self r ⌝ }
+        ensures { λ r. ⌜ Performs (model.gates model.off) self r ⌝ }
     {
         if !well_formed(self) {
             return malformed(self);
         }
-        let p = switched_off(self);
+        let g = self.gates;
+        let gates = timetable::cleared(g);
+        let mut p = self;
+        p.gates = gates;
         done(p)
     }
 
     // Replaces the standing octet. Refused: 14.
     pub fn standing(self, octet: u8) -> Acted
-        ensures { λ r. ⌜ Performs (model.standing octet) self r ⌝ }
+        ensures { λ r. ⌜ Performs (model.gates (model.standing octet)) self r ⌝ }
     {
         if !well_formed(self) {
             return malformed(self);
         }
-        let p = with_gates(self, self.on, octet);
+        let x = self.gates.times;
+        let y = Times {
+            standing: octet,
+            ..x
+        };
+        let p = with_times(self, y);
         done(p)
     }
 }

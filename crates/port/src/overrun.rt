@@ -1,49 +1,42 @@
-// The overrun test that follows every accepted act: a frame being sent whose gate is closed in the octet shown is counted, once.
+// The overrun test that follows every accepted act: a frame on the wire whose gate is closed in the octet shown is counted, once.
 ghost use mathlib.Core.Path.{_≡_};
-ghost use Prim.Native.Nat.{_≤_};
 ghost use Rattle.rule.specs.Port as model;
-ghost use Rattle.port.specs.Coding.{present, decodeFrame, decode, encode, Fine};
-ghost use Rattle.port.specs.Updates.{raised, withMark};
-use crate::Frame;
+ghost use Rattle.frames.specs.Frame.{decodeFrame};
+ghost use Rattle.port.specs.Coding.{decode, encode, Fine};
+ghost use Rattle.port.specs.Updates.{markedFrame, countedFor};
 use crate::Port;
-use crate::look::shown_at;
-use crate::regime::outline_of;
+use frames::Frame;
+use timetable::shown_at;
 
-// A frame being sent whose gate is closed in the octet, and that is not counted.
-fn shut(f: Frame, octet: u8) -> bool
-    ensures { λ r. ⌜ r ≡ model.overran octet (present (f .present) (decodeFrame f)) ⌝ }
+// The frame on the wire at an instant, not counted, has its gate closed in the octet.
+fn shut(f: Frame, octet: u8, t: u64) -> bool
+    ensures { λ r. ⌜ r ≡ model.overran t octet (decodeFrame f) ⌝ }
 {
     let is_open = gatelist::gate(octet, f.class);
-    f.present & (!f.counted & !is_open)
+    (f.present == 1) & (!(f.counted == 1) & ((t < f.end) & !is_open))
 }
 
-// The frame's class has one overrun more, and the frame is marked.
-fn counted(p: Port) -> Port
-    requires { ⌜ p .frame .class ≤ 7 ⌝ }
-    ensures { λ r. ⌜ r ≡ raised p ⌝ }
+// The frame with its overrun counted, if it is there and b says so.
+pub fn marked(f: Frame, b: bool) -> Frame
+    ensures { λ r. ⌜ r ≡ markedFrame b f ⌝ }
 {
-    let mut q = p;
-    let mut f = q.frame;
-    let mut v = q.overruns;
-    let i = f.class as usize;
-    let n = std::num::wrapping_add_u64(v[i], 1);
-    v[i] = n;
-    f.counted = true;
-    q.frame = f;
-    q.overruns = v;
-    q
-}
-
-// The same if the frame met a closed gate.
-pub fn marked(p: Port, met: bool) -> Port
-    requires { ⌜ Fine p ⌝ }
-    ensures { λ r. ⌜ r ≡ encode (withMark met (decode p)) ⌝ }
-{
-    let f = p.frame;
-    if met & f.present {
-        return counted(p);
+    if b & (f.present == 1) {
+        return Frame { counted: 1, ..f };
     }
-    p
+    f
+}
+
+// The counters, that of the frame's class one more if it is there and b says so.
+pub fn counted(overruns: [u64; 8], f: Frame, b: bool) -> [u64; 8]
+    ensures { λ r. ⌜ r ≡ countedFor b f overruns ⌝ }
+{
+    let mut v = overruns;
+    let i = f.class as usize;
+    if (b & (f.present == 1)) & (f.class <= 7) {
+        let n = std::num::wrapping_add_u64(v[i], 1);
+        v[i] = n;
+    }
+    v
 }
 
 // The port after the overrun test.
@@ -51,17 +44,25 @@ pub fn tested(p: Port) -> Port
     requires { ⌜ Fine p ⌝ }
     ensures { λ r. ⌜ r ≡ encode (model.tested (decode p)) ⌝ }
 {
-    let clock = p.clock;
     let f = p.frame;
-    let x = outline_of(p);
+    if f.present != 1 {
+        return p;
+    }
+    let x = p.gates.times;
     let octet = shown_at(
         x,
-        &p.operating.list.octets,
-        &p.operating.list.intervals,
-        &p.waiting.config.list.octets,
-        &p.waiting.config.list.intervals,
-        clock,
+        &p.gates.octets,
+        &p.gates.intervals,
+        &p.gates.newoctets,
+        &p.gates.newintervals,
+        x.clock,
     );
-    let met = shut(f, octet);
-    marked(p, met)
+    let met = shut(f, octet, x.clock);
+    let v = p.overruns;
+    let frame = marked(f, met);
+    let overruns = counted(v, f, met);
+    let mut q = p;
+    q.frame = frame;
+    q.overruns = overruns;
+    q
 }

@@ -9,13 +9,14 @@ use native.Mathlib.Numerals.{add-one}
 use native.Mathlib.Omega.{arith}
 use lib.Dec.{eqb}
 use borrow.Author.Tests.{eq-eqb}
-use Rattle.rule.specs.Port.{Port, shown, shownNow, tick}
-use Rattle.rule.specs.Acts.{Act, perform}
-use Rattle.rule.specs.Orders.{accepts}
+use Rattle.rule.specs.Timetable.{Timetable, shown, shownNow, tick}
+use Rattle.rule.specs.Acts.{GateAct, performGates}
+use Rattle.rule.specs.Orders.{acceptsGates}
 use Rattle.rule.specs.Machine.{ticks, noted, log, Call, step, attempt, Outcome, run, elapsed}
-use Rattle.rule.specs.PortMachine.{clock-perform, machine}
+use Rattle.rule.specs.Machines.{timetableMachine}
 use Rattle.rule.specs.History.{History, ruleOctet, changes, ruleChanges}
 use Rattle.rule.proofs.Cut.{cases, clock-ticks, Timely, run-timely}
+use Rattle.rule.proofs.Laws.{timetable-lawful}
 use Rattle.rule.proofs.Shown.{now-ticks}
 use Rattle.rule.proofs.Track.{Tracks, tracks-ticks, tracks-shown, tracks-perform}
 
@@ -36,25 +37,25 @@ quiet f lo zero h = refl
 quiet f lo (suc n) h = rw (eq-eqb (f lo) (f (suc lo)) (sym (h lo (omega arith) (omega arith)))) (quiet f (suc lo) n (λ t a b. h t (omega arith) (omega arith)))
 
 -- the machine's log, by what it shows at each instant
-noted-cond : (b : Bool) (p : Port) (l : List (ℕ × ℕ)) → noted machine b p l ≡ cond b l ((p .clock, shownNow p) ∷ l)
+noted-cond : (b : Bool) (p : Timetable) (l : List (ℕ × ℕ)) → noted timetableMachine b p l ≡ cond b l ((p .clock, shownNow p) ∷ l)
 unfolding noted
 noted-cond true p l = refl
 noted-cond false p l = refl
 
-log-by : (f : ℕ → ℕ) (n : ℕ) (p : Port) → ((k : ℕ) → shownNow (ticks machine k p) ≡ f (p .clock + k)) → log machine n p ≡ changes f (p .clock) n
+log-by : (f : ℕ → ℕ) (n : ℕ) (p : Timetable) → ((k : ℕ) → shownNow (ticks timetableMachine k p) ≡ f (p .clock + k)) → log timetableMachine n p ≡ changes f (p .clock) n
 unfolding log changes ticks tick
 log-by f zero p h = refl
 log-by f (suc n) p h =
     let e₀ : shownNow p ≡ f (p .clock) = rw add-zero at (h 0) in
     let e₁ : shownNow (tick p) ≡ f (suc (p .clock)) = rw add-one at (h 1) in
-    let r : log machine n (tick p) ≡ changes f (suc (p .clock)) n = log-by f n (tick p) (λ k. rw (suc-add, ← add-suc) (h (suc k))) in
-    noted-cond (eqb (shownNow p) (shownNow (tick p))) (tick p) (log machine n (tick p))
+    let r : log timetableMachine n (tick p) ≡ changes f (suc (p .clock)) n = log-by f n (tick p) (λ k. rw (suc-add, ← add-suc) (h (suc k))) in
+    noted-cond (eqb (shownNow p) (shownNow (tick p))) (tick p) (log timetableMachine n (tick p))
     ∙ (λ i. cond (eqb (e₀ i) (e₁ i)) (r i) ((suc (p .clock), e₁ i) ∷ r i))
 
-pub log-shown : (n : ℕ) (p : Port) → log machine n p ≡ changes (shown p) (p .clock) n
+pub log-shown : (n : ℕ) (p : Timetable) → log timetableMachine n p ≡ changes (shown p) (p .clock) n
 log-shown n p = log-by (shown p) n p (λ k. now-ticks k p)
 
-log-rule : {s₀ : ℕ} {h : History} (n : ℕ) {p : Port} → Tracks s₀ h p → log machine n p ≡ changes (ruleOctet s₀ h) (p .clock) n
+log-rule : {s₀ : ℕ} {h : History} (n : ℕ) {p : Timetable} → Tracks s₀ h p → log timetableMachine n p ≡ changes (ruleOctet s₀ h) (p .clock) n
 log-rule {s₀} {h} n {p} k = log-by (ruleOctet s₀ h) n p (λ j. now-ticks j p ∙ tracks-shown k (p .clock + j) (omega arith))
 
 -- to go to t is to go on to t from a stop on the way
@@ -63,7 +64,7 @@ changes-to f lo k t h =
     let e : t - lo ≡ k + (t - (lo + k)) = omega arith in
     ap (changes f lo) e ∙ changes-add f lo k (t - (lo + k))
 
-ruleChanges-cut : (s₀ : ℕ) (h : History) (lo k : ℕ) (l : List (ℕ × Act)) (e : ℕ) → Timely machine (lo + k) l e
+ruleChanges-cut : (s₀ : ℕ) (h : History) (lo k : ℕ) (l : List (ℕ × GateAct)) (e : ℕ) → Timely timetableMachine timetable-lawful (lo + k) l e
     → ruleChanges s₀ h lo l e ≡ changes (ruleOctet s₀ h) lo k ++ ruleChanges s₀ h (lo + k) l e
 unfolding ruleChanges Timely
 ruleChanges-cut s₀ h lo k [] e c = changes-to (ruleOctet s₀ h) lo k e c
@@ -73,22 +74,22 @@ none-yet : (f : ℕ → ℕ) (lo : ℕ) → changes f lo (lo - lo) ≡ []
 unfolding changes
 none-yet f lo = rw sub-self
 
-pub run-changes : {s₀ : ℕ} (cs : List (Call Act)) {h : History} {p : Port} → Tracks s₀ h p
-    → run machine cs p .out ≡ ruleChanges s₀ h (p .clock) (run machine cs p .acts) (run machine cs p .port .clock)
+pub run-changes : {s₀ : ℕ} (cs : List (Call GateAct)) {h : History} {p : Timetable} → Tracks s₀ h p
+    → run timetableMachine cs p .out ≡ ruleChanges s₀ h (p .clock) (run timetableMachine cs p .acts) (run timetableMachine cs p .port .clock)
 unfolding run ruleChanges
 run-changes {s₀} [] {h} {p} k = sym (none-yet (ruleOctet s₀ h) (p .clock))
 run-changes {s₀} (step g m ∷ cs) {h} {p} k =
-    let n : ℕ = elapsed machine (step g m) p in
-    let q : Port = ticks machine n p in
-    let r = run machine cs q in
+    let n : ℕ = elapsed timetableMachine (step g m) p in
+    let q : Timetable = ticks timetableMachine n p in
+    let r = run timetableMachine cs q in
     (λ i. log-rule n k i ++ run-changes cs (tracks-ticks n k) i)
-    ∙ ap (λ t. changes (ruleOctet s₀ h) (p .clock) n ++ ruleChanges s₀ h t (r .acts) (r .port .clock)) (clock-ticks machine n p)
+    ∙ ap (λ t. changes (ruleOctet s₀ h) (p .clock) n ++ ruleChanges s₀ h t (r .acts) (r .port .clock)) (clock-ticks timetableMachine timetable-lawful n p)
     ∙ sym (ruleChanges-cut s₀ h (p .clock) n (r .acts) (r .port .clock)
-    (subst (λ t. Timely machine t (r .acts) (r .port .clock)) (clock-ticks machine n p) (run-timely machine cs q)))
+    (subst (λ t. Timely timetableMachine timetable-lawful t (r .acts) (r .port .clock)) (clock-ticks timetableMachine timetable-lawful n p) (run-timely timetableMachine timetable-lawful cs q)))
 run-changes {s₀} (attempt a ∷ cs) {h} {p} k =
-    cases (λ (r : Outcome Port ℕ Act). r .out ≡ ruleChanges s₀ h (p .clock) (r .acts) (r .port .clock)) (accepts a p) _ _
-    (λ e. let r = run machine cs (perform a p) in
+    cases (λ (r : Outcome Timetable ℕ GateAct). r .out ≡ ruleChanges s₀ h (p .clock) (r .acts) (r .port .clock)) (acceptsGates a p) _ _
+    (λ e. let r = run timetableMachine cs (performGates a p) in
     run-changes cs (tracks-perform a e k)
-    ∙ ap (λ t. ruleChanges s₀ ((p .clock, a) ∷ h) t (r .acts) (r .port .clock)) (clock-perform a p)
+    ∙ ap (λ t. ruleChanges s₀ ((p .clock, a) ∷ h) t (r .acts) (r .port .clock)) (timetable-lawful .clock-perform a p)
     ∙ ap (λ l. l ++ ruleChanges s₀ ((p .clock, a) ∷ h) (p .clock) (r .acts) (r .port .clock)) (sym (none-yet (ruleOctet s₀ h) (p .clock))))
     (λ _. run-changes cs k)

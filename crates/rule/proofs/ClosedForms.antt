@@ -53,9 +53,12 @@ change-closed f base a = go (leb a base)
 pub up-fits : (c a base : ℕ) → base < a → base + ((a - 1 - base) / c + 1) * c < a + c
 up-fits c a base h = omega (arith, div-mul-le-self (a - 1 - base) c)
 
-pub change-near : (f : Config) (base a last longest : ℕ) → 1 ≤ f .cycle → f .cycle ≤ longest → base ≤ last → a ≤ last → changeInstant f base a ≤ last + longest
-change-near f base a last longest p q h k = rw (change-closed f base a) (go (leb a base) refl)
+pub change-less : (f : Config) (base a last : ℕ) → 1 ≤ f .cycle → base ≤ last → a ≤ last → changeInstant f base a < last + f .cycle
+change-less f base a last p h k = rw (change-closed f base a) (go (leb a base) refl)
   where
-    go : (b : Bool) → leb a base ≡ b → cond b base (base + ((a - 1 - base) / f .cycle + 1) * f .cycle) ≤ last + longest
+    go : (b : Bool) → leb a base ≡ b → cond b base (base + ((a - 1 - base) / f .cycle + 1) * f .cycle) < last + f .cycle
     go true e = omega arith
     go false e = omega (arith, up-fits (f .cycle) a base (leb-false a base e))
+
+pub change-near : (f : Config) (base a last longest : ℕ) → 1 ≤ f .cycle → f .cycle ≤ longest → base ≤ last → a ≤ last → changeInstant f base a ≤ last + longest
+change-near f base a last longest p q h k = omega (arith, change-less f base a last p h k)

@@ -16,13 +16,18 @@ pub cases : {A : Type 0} (P : A → Type 0) (b : Bool) (x y : A) → (b ≡ true
 cases P true x y f g = f refl
 cases P false x y f g = g refl
 
-module _ (M : Machine) where
-  open Machine M using (State, Out, Act, clock, tick, now, same, accepts, perform, acceptsGoal, clock-tick, clock-perform)
+-- the laws of a machine: a tick is one instant, an act takes no time
+pub record Lawful (M : Machine) : Type 0 where
+  pub clock-tick : (s : M .State) → M .clock (M .tick s) ≡ suc (M .clock s)
+  pub clock-perform : (a : M .Act) (s : M .State) → M .clock (M .perform a s) ≡ M .clock s
+
+module _ (M : Machine) (L : Lawful M) where
+  open Machine M using (State, Out, Act, clock, tick, now, same, accepts, perform, acceptsGoal)
 
   pub clock-ticks : (n : ℕ) (s : State) → clock (ticks M n s) ≡ clock s + n
   unfolding ticks
   clock-ticks zero s = omega arith
-  clock-ticks (suc n) s = omega (arith, clock-ticks n (tick s), clock-tick s)
+  clock-ticks (suc n) s = omega (arith, clock-ticks n (tick s), L .clock-tick s)
 
   pub ticks-add : (m n : ℕ) (s : State) → ticks M (m + n) s ≡ ticks M n (ticks M m s)
   unfolding ticks
@@ -83,7 +88,7 @@ module _ (M : Machine) where
   run-timely (attempt a ∷ cs) s =
       cases (λ (r : Outcome State Out Act). Timely (clock s) (r .acts) (clock (r .port))) (accepts a s) _ _
       (λ _. let r = run M cs (perform a s) in
-      (omega arith, subst (λ t. Timely t (r .acts) (clock (r .port))) (clock-perform a s) (run-timely cs (perform a s))))
+      (omega arith, subst (λ t. Timely t (r .acts) (clock (r .port))) (L .clock-perform a s) (run-timely cs (perform a s))))
       (λ _. run-timely cs s)
 
   stay : (s : State) → ticks M (clock s - clock s) s ≡ s

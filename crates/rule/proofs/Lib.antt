@@ -1,7 +1,11 @@
 pub mod Refusals
+pub mod Unique
+pub mod Soundness
 pub mod Cut
+pub mod Laws
 pub mod Reach
 pub mod Shown
+pub mod Gated
 pub mod Entries
 pub mod Cycles
 pub mod ClosedForms

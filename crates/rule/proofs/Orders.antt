@@ -13,9 +13,10 @@ use Rattle.rule.specs.declared.Refusal.{Refusal}
 use Rattle.rule.specs.declared.Refusal.the-variants.{ZeroInterval, ListLength, SwitchedOff, ChangeWaits, CycleTime, AboveLargest, BeforeClock, StepTooLong, HeadLength, Speed, FrameSending}
 use Rattle.rule.specs.Refusals.{firstOf, accepted}
 use Rattle.rule.specs.Cycle.{cycleOffered}
-use Rattle.rule.specs.Port.{Port}
+use Rattle.rule.specs.Timetable.{Timetable}
+use Rattle.rule.specs.Port.{Port, Frame}
 use Rattle.rule.specs.Acts.{Submission, isSome, submit, transmit}
-use Rattle.rule.specs.Orders.{any, lengthOffered, hasZeroInterval, speedOffered, headOffered, submitOrder, transmitOrder, stepOrder, lookOrder, newOrder, accepts, acceptsGoal}
+use Rattle.rule.specs.Orders.{any, lengthOffered, hasZeroInterval, speedOffered, headOffered, submitOrder, transmitOrder, stepOrder, lookOrder, newOrder, acceptsGates, accepts, acceptsGoal}
 
 -- one test; two tests at once
 passed : (b : Bool) (r : Refusal) (rest : Option Refusal) → accepted (cond b (some r) rest) ≡ true → (b ≡ false) × (accepted rest ≡ true)
@@ -30,7 +31,7 @@ pub absent : {A : Type 0} (o : Option A) → isSome o ≡ false → o ≡ none
 absent none e = refl
 absent (some a) e = absurd (true≢false e)
 
-pub record PassedSubmit (x : Submission) (p : Port) : Type 0 where
+pub record PassedSubmit (x : Submission) (p : Timetable) : Type 0 where
   pub on : p .on ≡ true
   pub none-waits : isSome (p .waiting) ≡ false
   pub cycle : cycleOffered (x .numerator) (x .denominator) ≡ true
@@ -38,8 +39,8 @@ pub record PassedSubmit (x : Submission) (p : Port) : Type 0 where
   pub entries : lengthOffered (length (x .list)) ≡ true
   pub intervals : hasZeroInterval (x .list) ≡ false
 
-pub submit-passed : (x : Submission) (p : Port) → accepts (submit x) p ≡ true → PassedSubmit x p
-unfolding accepts submitOrder
+pub submit-passed : (x : Submission) (p : Timetable) → acceptsGates (submit x) p ≡ true → PassedSubmit x p
+unfolding acceptsGates submitOrder
 submit-passed x p e =
     let t₁ = passed (not (p .on)) SwitchedOff _ e in
     let t₂ = passed (isSome (p .waiting)) ChangeWaits _ (t₁ .1) in
@@ -56,25 +57,29 @@ submit-passed x p e =
       intervals = t₆ .0;
     }
 
-pub record PassedTransmit (heads : List ℕ) (speed : ℕ) (p : Port) : Type 0 where
+pub record PassedTransmit (heads : List ℕ) (speed : ℕ) (f : Option Frame) : Type 0 where
   pub speed-offered : speedOffered speed ≡ true
-  pub none-sent : p .frame ≡ none
+  pub none-sent : f ≡ none
   pub heads-offered : any (λ n. not (headOffered n)) heads ≡ false
 
-pub transmit-passed : (heads : List ℕ) (speed : ℕ) (p : Port) → accepts (transmit heads speed) p ≡ true → PassedTransmit heads speed p
-unfolding accepts transmitOrder
-transmit-passed heads speed p e =
+pub order-passed : (heads : List ℕ) (speed : ℕ) (f : Option Frame) → accepted (firstOf (transmitOrder heads speed f)) ≡ true → PassedTransmit heads speed f
+unfolding transmitOrder
+order-passed heads speed f e =
     let t₁ = passed (not (speedOffered speed)) Speed _ e in
-    let t₂ = passed (isSome (p .frame)) FrameSending _ (t₁ .1) in
+    let t₂ = passed (isSome f) FrameSending _ (t₁ .1) in
     let t₃ = passed (any (λ n. not (headOffered n)) heads) HeadLength _ (t₂ .1) in
-    record { speed-offered = not-false (speedOffered speed) (t₁ .0); none-sent = absent (p .frame) (t₂ .0); heads-offered = t₃ .0 }
+    record { speed-offered = not-false (speedOffered speed) (t₁ .0); none-sent = absent f (t₂ .0); heads-offered = t₃ .0 }
 
-pub record PassedGoal (goal : ℕ) (p : Port) : Type 0 where
+pub transmit-passed : (heads : List ℕ) (speed : ℕ) (p : Port) → accepts (transmit heads speed) p ≡ true → PassedTransmit heads speed (p .frame)
+unfolding accepts
+transmit-passed heads speed p e = order-passed heads speed (p .frame) e
+
+pub record PassedGoal (goal : ℕ) (p : Timetable) : Type 0 where
   pub reached : goal ≤ largestInstant
   pub ahead : p .clock ≤ goal
   pub short : goal - p .clock ≤ largestStep
 
-pub goal-passed : (goal : ℕ) (p : Port) → acceptsGoal goal p ≡ true → PassedGoal goal p
+pub goal-passed : (goal : ℕ) (p : Timetable) → acceptsGoal goal p ≡ true → PassedGoal goal p
 unfolding acceptsGoal stepOrder
 goal-passed goal p e =
     let t₁ = passed (ltb largestInstant goal) AboveLargest _ e in
@@ -90,7 +95,7 @@ pub new-passed : (t : ℕ) → accepted (firstOf (newOrder t)) ≡ true → t �
 unfolding newOrder
 new-passed t e = ltb-false largestInstant t (passed (ltb largestInstant t) AboveLargest _ e .0)
 
-pub look-passed : (t : ℕ) (p : Port) → accepted (firstOf (lookOrder t p)) ≡ true → (t ≤ largestInstant) × (p .clock ≤ t)
+pub look-passed : (t : ℕ) (p : Timetable) → accepted (firstOf (lookOrder t p)) ≡ true → (t ≤ largestInstant) × (p .clock ≤ t)
 unfolding lookOrder
 look-passed t p e =
     let t₁ = passed (ltb largestInstant t) AboveLargest _ e in

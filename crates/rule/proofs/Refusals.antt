@@ -48,7 +48,3 @@ number-some r e =
     let q : some r ≡ none = sym (refusal-number r) ∙ ap refusalOf e in
     let z : _≡_ {A = ℕ} 0 1 = cc in
     omega arith
-
--- the number of a refusal is one
-pub number-unique : (r : Refusal) (n m : ℕ) → n ≡ numberOf r → m ≡ numberOf r → n ≡ m
-number-unique r n m k l = k ∙ sym l

@@ -1,5 +1,5 @@
 -- Over a span in which the cycles of one list run, what is shown is that list read over them. In order: a cycle's start and the next; such a span; the plain
--- cycles and the last old cycle of a configuration; what a port shows, by its mark and what operates and waits.
+-- cycles and the last old cycle of a configuration; what a timetable shows, by its mark and what operates and waits.
 -- Assumes nothing.
 use mathlib.Core.Path.{_≡_, refl, ap, sym, _∙_}
 use mathlib.Core.Bool.{Bool, true, false, cond}
@@ -10,7 +10,7 @@ use native.Mathlib.Omega.{arith}
 use borrow.Author.Tests.{le-leb, lt-leb}
 use Rattle.rule.specs.Entries.{Entry, octetAt}
 use Rattle.rule.specs.Cycle.{Config, Valid, startNo, cycleNo, lastNo, plainStart, bentStart, plainOctet, bentOctet}
-use Rattle.rule.specs.Port.{Port, Waiting, octetUnder, shown}
+use Rattle.rule.specs.Timetable.{Timetable, Waiting, octetUnder, shown}
 use Rattle.rule.proofs.Cycles.{start-zero, start-suc, start-own, plain-le, next-start, same-cycle}
 
 -- in one cycle the start is one, and the next is the start of its own
@@ -97,8 +97,8 @@ module _ (f : Config) (a P s : ℕ) (is : s ≡ startNo f (lastNo f a P)) where
   rules-early t e s′ h r =
       rules-as (plainOctet f) (bentOctet f a P) (f .list) (f .cycle) s′ t e (λ v l m. let z : v < s = omega arith in rw (← is, lt-leb s v z)) r
 
--- what a port shows at an instant
-module _ (p : Port) where
+-- what a timetable shows at an instant
+module _ (p : Timetable) where
   pub shows-off : p .on ≡ false → (v : ℕ) → shown p v ≡ p .standing
   unfolding shown
   shows-off e v = rw e

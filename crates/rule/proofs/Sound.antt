@@ -1,26 +1,28 @@
--- A sound port stays sound: what falls due and the overrun test keep it so (`sound-ticks`), and so does every accepted act (`sound-perform`); a new port
--- is sound (`sound-new`). In a sound port the last old cycle begins at the start that document 01's rule asks for (`sound-last`).
+-- A sound timetable and a sound port stay sound: what falls due and the overrun test keep them so (`sound-ticks`), and so does every accepted act (`sound-perform`); a new port
+-- is sound (`sound-new`). In a sound timetable the last old cycle begins at the start that document 01's rule asks for (`sound-last`).
 -- Assumes nothing.
-use mathlib.Core.Path.{_≡_, refl, sym, _∙_, subst₂}
+use mathlib.Core.Path.{_≡_, refl, sym, _∙_, subst⁻¹, subst₂}
 use mathlib.Core.Bool.{Bool, true, false, cond, not, _&&_, true≢false}
 use mathlib.Core.List.{List, [], _∷_}
 use mathlib.Core.Option.{Option, none, some}
 use Prim.Native.Nat.{ℕ, zero, suc, _+_, _-_, _*_, _/_, _%_, _≤_}
-use native.Mathlib.Nat.{mul-le-mul-left, div-mul-le-self}
+use native.Mathlib.Nat.{mul-le-mul-left, div-mul-le-self, div-add-mod'}
 use native.Mathlib.Omega.{arith}
 use lib.Dec.{leb, eqb}
 use lib.ListN.{length, getD}
 use borrow.Author.Tests.{leb-true, leb-false, eqb-true, not-false}
 use Rattle.rule.specs.Limits.{largestList, largestInstant, largestCycle, longestSpan, shortestFrame, longestFrame}
 use Rattle.rule.specs.Cycle.{Config, Valid, cycleOf, cycleOffered, lastNo}
-use Rattle.rule.specs.Port.{Port, Waiting, Frame, newPort, shownNow, operatingAt, waitingAt, frameAt, due, overran, marked, tested, tick}
+use Rattle.rule.specs.Timetable.{Timetable, Waiting, newTimetable, shownNow, operatingAt, waitingAt, due}
+use Rattle.rule.specs.Port.{Port, Frame, forgottenAt, newPort, frameAt, overran, marked, tested, portTick}
 use Rattle.rule.specs.Choice.{duration, lookAhead, qualifies, highest, frameFor, chosen}
-use Rattle.rule.specs.Acts.{Act, on, off, standing, submit, transmit, Submission, configOf, submitted, performed, perform}
-use Rattle.rule.specs.Orders.{any, lengthOffered, headOffered, accepts}
+use Rattle.rule.specs.Acts.{GateAct, on, off, standing, submit, performGates, Act, gates, transmit, Submission, configOf, submitted, performed, perform}
+use Rattle.rule.specs.Orders.{any, lengthOffered, headOffered, acceptsGates, accepts}
 use Rattle.rule.specs.Machine.{ticks}
-use Rattle.rule.specs.PortMachine.{machine}
-use Rattle.rule.specs.Sound.{SoundConfig, SoundOperating, SoundWaiting, SoundFrame, Sound}
+use Rattle.rule.specs.Machines.{machine}
+use Rattle.rule.proofs.Soundness.{SoundConfig, SoundOperating, SoundWaiting, SoundTimetable, SoundFrame, Sound}
 use Rattle.rule.proofs.Cut.{cases}
+use Rattle.rule.proofs.Laws.{timetable-lawful}
 use Rattle.rule.proofs.Orders.{both, PassedSubmit, submit-passed, transmit-passed}
 use Rattle.rule.proofs.Cycles.{Last, last-no}
 use Rattle.rule.proofs.ClosedForms.{change-near}
@@ -35,11 +37,8 @@ marked-sound t false (some f) s = s
 
 pub sound-tested : (p : Port) → Sound p → Sound (tested p)
 sound-tested p s = record {
-  clock = s .clock;
-  idle = s .idle;
-  operating = s .operating;
-  waiting = s .waiting;
-  frame = marked-sound (p .clock) (overran (shownNow p) (p .frame)) (p .frame) (s .frame);
+  gates = s .gates;
+  frame = marked-sound (p .gates .clock) (overran (p .gates .clock) (shownNow (p .gates)) (p .frame)) (p .frame) (s .frame);
 }
 
 operating-later : (c t : ℕ) (o : Option Config) → c ≤ t → SoundOperating c o → SoundOperating t o
@@ -64,6 +63,7 @@ configs-due c t o none h s k = (operating-later c t o h s, tt)
 configs-due c t o (some w) h s k = wait-due c t o w h s (k .config) (k .since) (k .near) (k .old)
 
 frame-due : (c t : ℕ) (f : Option Frame) → c ≤ t → SoundFrame c f → SoundFrame t (frameAt t f)
+unfolding forgottenAt
 frame-due c t none h s = tt
 frame-due c t (some f) h s = go (leb (f .end) t) refl
   where
@@ -74,23 +74,29 @@ frame-due c t (some f) h s = go (leb (f .end) t) refl
 idle-due : (t : ℕ) (o : Option Config) (w : Option Waiting) → (o ≡ none) × (w ≡ none) → (operatingAt t o w ≡ none) × (waitingAt t w ≡ none)
 idle-due t o w z = (rw (z .1) (z .0), rw (z .1))
 
-sound-due : (t : ℕ) (p : Port) → p .clock ≤ t → t ≤ largestInstant → Sound p → Sound (due t p)
-sound-due t p h k s =
+gates-due : (t : ℕ) (p : Timetable) → p .clock ≤ t → t ≤ largestInstant → SoundTimetable p → SoundTimetable (due t p)
+gates-due t p h k s =
     let z = configs-due (p .clock) t (p .operating) (p .waiting) h (s .operating) (s .waiting) in
     record {
       clock = k;
       idle = λ e. idle-due t (p .operating) (p .waiting) (s .idle e);
       operating = z .0;
       waiting = z .1;
-      frame = frame-due (p .clock) t (p .frame) h (s .frame);
     }
 
-pub sound-ticks : (n : ℕ) (p : Port) → p .clock + n ≤ largestInstant → Sound p → Sound (ticks machine n p)
-unfolding ticks tick
+sound-tick : (p : Port) → suc (p .gates .clock) ≤ largestInstant → Sound p → Sound (portTick p)
+unfolding portTick
+sound-tick p h s =
+    let t : ℕ = suc (p .gates .clock) in
+    sound-tested (record { gates = due t (p .gates); frame = frameAt t (p .frame); overruns = p .overruns }) (record {
+      gates = gates-due t (p .gates) (omega arith) h (s .gates);
+      frame = frame-due (p .gates .clock) t (p .frame) (omega arith) (s .frame);
+    })
+
+pub sound-ticks : (n : ℕ) (p : Port) → p .gates .clock + n ≤ largestInstant → Sound p → Sound (ticks machine n p)
+unfolding ticks
 sound-ticks zero p h s = s
-sound-ticks (suc n) p h s =
-    sound-ticks n (tick p) (omega arith)
-    (sound-tested (due (suc (p .clock)) p) (sound-due (suc (p .clock)) p (omega arith) (omega arith) s))
+sound-ticks (suc n) p h s = sound-ticks n (portTick p) (unfold portTick in omega arith) (sound-tick p (omega arith) s)
 
 -- acts
 
@@ -102,7 +108,15 @@ cycle-range n d e =
     let t₃ = both (leb 1 (cycleOf n d)) (leb (cycleOf n d) largestCycle) (t₂ .1) in
     (leb-true 1 (cycleOf n d) (t₃ .0), leb-true (cycleOf n d) largestCycle (t₃ .1))
 
-submission-sound : (x : Submission) (p : Port) → PassedSubmit x p → SoundConfig (configOf (p .clock) x)
+-- the cycle is a whole number of ns: c × denominator = numerator × 10^9
+pub cycle-whole : (n d : ℕ) → cycleOffered n d ≡ true → cycleOf n d * d ≡ n * 1_000_000_000
+unfolding cycleOffered
+cycle-whole n d e =
+    let t₁ = both (not (eqb d 0)) _ e in
+    let t₂ = both (eqb (n * 1_000_000_000 % d) 0) _ (t₁ .1) in
+    omega (arith, div-add-mod' (n * 1_000_000_000) d, eqb-true (n * 1_000_000_000 % d) 0 (t₂ .0))
+
+submission-sound : (x : Submission) (p : Timetable) → PassedSubmit x p → SoundConfig (configOf (p .clock) x)
 unfolding configOf lengthOffered
 submission-sound x p k =
     let r = cycle-range (x .numerator) (x .denominator) (k .cycle) in
@@ -115,7 +129,7 @@ submission-sound x p k =
       short = r .1;
     }
 
-submission-near : (x : Submission) (p : Port) → p .clock ≤ largestInstant → PassedSubmit x p
+submission-near : (x : Submission) (p : Timetable) → p .clock ≤ largestInstant → PassedSubmit x p
     → configOf (p .clock) x .start ≤ largestInstant + largestCycle
 unfolding configOf
 submission-near x p h k =
@@ -163,27 +177,30 @@ frame-sound t heads v q (suc n) a b c h =
     })
     (λ _. frame-sound t heads v q n (omega arith) b c h)
 
-pub performed-sound : (a : Act) (p : Port) → accepts a p ≡ true → Sound p → Sound (performed a p)
-unfolding submitted chosen
-performed-sound on p e s =
-    record { clock = s .clock; idle = λ z. absurd (true≢false z); operating = s .operating; waiting = s .waiting; frame = s .frame }
-performed-sound off p e s = record { clock = s .clock; idle = λ _. (refl, refl); operating = tt; waiting = tt; frame = s .frame }
-performed-sound (standing octet) p e s =
-    record { clock = s .clock; idle = s .idle; operating = s .operating; waiting = s .waiting; frame = s .frame }
-performed-sound (submit x) p e s =
+pub gates-sound : (a : GateAct) (p : Timetable) → acceptsGates a p ≡ true → SoundTimetable p → SoundTimetable (performGates a p)
+unfolding submitted
+gates-sound on p e s = record { clock = s .clock; idle = λ z. absurd (true≢false z); operating = s .operating; waiting = s .waiting }
+gates-sound off p e s = record { clock = s .clock; idle = λ _. (refl, refl); operating = tt; waiting = tt }
+gates-sound (standing octet) p e s = record { clock = s .clock; idle = s .idle; operating = s .operating; waiting = s .waiting }
+gates-sound (submit x) p e s =
     let k = submit-passed x p e in
     let z = wait-due (p .clock) (p .clock) (p .operating) (record { config = configOf (p .clock) x; since = p .clock }) (omega arith) (s .operating)
     (submission-sound x p k) (omega arith) (submission-near x p (s .clock) k) (s .operating) in
-    record { clock = s .clock; idle = λ z. absurd (true≢false (sym (k .on) ∙ z)); operating = z .0; waiting = z .1; frame = s .frame }
+    record { clock = s .clock; idle = λ z. absurd (true≢false (sym (k .on) ∙ z)); operating = z .0; waiting = z .1 }
+
+pub performed-sound : (a : Act) (p : Port) → accepts a p ≡ true → Sound p → Sound (performed a p)
+unfolding chosen
+performed-sound (gates a) p e s = record {
+  gates = gates-sound a (p .gates) (unfold accepts acceptsGates in e) (s .gates);
+  frame = subst⁻¹ (λ t. SoundFrame t (p .frame)) (timetable-lawful .clock-perform a (p .gates)) (s .frame);
+}
 performed-sound (transmit heads v) p e s =
     let k = transmit-passed heads v p e in
     let r = speed-range v (k .speed-offered) in
+    let c : ℕ = p .gates .clock in
     record {
-      clock = s .clock;
-      idle = s .idle;
-      operating = s .operating;
-      waiting = s .waiting;
-      frame = frame-sound (p .clock) heads v (qualifies heads v (p .clock) (shownNow p) (lookAhead p)) 8 (omega arith) (r .0) (r .1)
+      gates = s .gates;
+      frame = frame-sound c heads v (qualifies heads v c (shownNow (p .gates)) (lookAhead (p .gates))) 8 (omega arith) (r .0) (r .1)
           (heads-short heads (k .heads-offered));
     }
 
@@ -192,15 +209,15 @@ unfolding perform
 sound-perform a p e s = sound-tested (performed a p) (performed-sound a p e s)
 
 pub sound-new : (t octet : ℕ) → t ≤ largestInstant → Sound (newPort t octet)
-unfolding newPort
-sound-new t octet h = record { clock = h; idle = λ _. (refl, refl); operating = tt; waiting = tt; frame = tt }
+unfolding newPort newTimetable
+sound-new t octet h = record { gates = record { clock = h; idle = λ _. (refl, refl); operating = tt; waiting = tt }; frame = tt }
 
 -- the start that `bentOctet` is computed from is the one that document 01 means
 pub config-valid : (f : Config) → SoundConfig f → Valid f
 unfolding Valid
 config-valid f s = s .some-time
 
-pub sound-last : (p : Port) → Sound p → (f : Config) (w : Waiting) → p .operating ≡ some f → p .waiting ≡ some w
+pub sound-last : (p : Timetable) → SoundTimetable p → (f : Config) (w : Waiting) → p .operating ≡ some f → p .waiting ≡ some w
     → (valid : Valid f) → Last f valid (w .since) (w .config .start) (lastNo f (w .since) (w .config .start))
 sound-last p s f w eo ew valid =
     let z : SoundWaiting (p .clock) (some f) (some w) = subst₂ (SoundWaiting (p .clock)) eo ew (s .waiting) in

@@ -1,4 +1,4 @@
--- The port record says what the rule reads off the accepted acts: mark, standing octet, what operates and waits, ConfigChangeError (`tracks-run`). In
+-- The timetable says what the rule reads off the accepted acts: mark, standing octet, what operates and waits, ConfigChangeError (`tracks-run`). In
 -- order: one instant more; the octet; an accepted act; any series of calls. Changes and overruns are in `Changes` and `Overrun`.
 -- Assumes nothing.
 use mathlib.Core.Path.{_≡_, refl, ap, ap₂, sym, _∙_}
@@ -11,12 +11,13 @@ use native.Mathlib.Numerals.{add-one}
 use native.Mathlib.Omega.{arith}
 use lib.Dec.{leb, ltb}
 use borrow.Author.Tests.{leb-true, le-leb}
-use Rattle.rule.specs.Port.{Port, Waiting, raise, octetUnder, shown, operatingAt, waitingAt, tick, newPort}
-use Rattle.rule.specs.Acts.{Act, on, off, standing, submit, transmit, isSome, configOf, errorsAfter, submitted, perform}
-use Rattle.rule.specs.Orders.{accepts}
+use Rattle.rule.specs.Timetable.{Timetable, Waiting, raise, octetUnder, shown, operatingAt, waitingAt, tick, newTimetable}
+use Rattle.rule.specs.Acts.{GateAct, on, off, standing, submit, isSome, configOf, errorsAfter, submitted, performGates}
+use Rattle.rule.specs.Orders.{acceptsGates}
 use Rattle.rule.specs.Machine.{ticks, Call, step, attempt, Outcome, run, elapsed}
-use Rattle.rule.specs.PortMachine.{machine}
-use Rattle.rule.specs.History.{History, markOf, standingOf, submissionsOf, newest, operatingOf, octetBy, ruleOctet, operates, ruleErrors}
+use Rattle.rule.specs.Machines.{timetableMachine}
+use Rattle.rule.specs.History.{History, markOf, standingOf, submissionsOf, octetBy, ruleOctet, operates, ruleErrors}
+use Rattle.rule.specs.Frames.{newest, operatingOf}
 use Rattle.rule.proofs.Cut.{cases}
 use Rattle.rule.proofs.Orders.{submit-passed}
 
@@ -26,7 +27,7 @@ pub waitingOf : List Waiting → ℕ → Option Waiting
 waitingOf [] t = none
 waitingOf (w ∷ l) t = cond (leb (w .config .start) t) none (some w)
 
-pub record Tracks (s₀ : ℕ) (h : History) (p : Port) : Type 0 where
+pub record Tracks (s₀ : ℕ) (h : History) (p : Timetable) : Type 0 where
   pub mark : p .on ≡ markOf h
   pub standing : p .standing ≡ standingOf s₀ h
   pub operating : p .operating ≡ operatingOf (submissionsOf h) (p .clock)
@@ -54,7 +55,7 @@ next-waiting (w ∷ l) t = go (leb (w .config .start) t) refl
     go true e = rw (le-leb (w .config .start) (suc t) (omega (arith, leb-true)))
     go false e = refl
 
-pub tracks-tick : {s₀ : ℕ} {h : History} {p : Port} → Tracks s₀ h p → Tracks s₀ h (tick p)
+pub tracks-tick : {s₀ : ℕ} {h : History} {p : Timetable} → Tracks s₀ h p → Tracks s₀ h (tick p)
 unfolding tick
 tracks-tick {h = h} {p} k = record {
   mark = k .mark;
@@ -64,7 +65,7 @@ tracks-tick {h = h} {p} k = record {
   errors = k .errors;
 }
 
-pub tracks-ticks : {s₀ : ℕ} {h : History} (n : ℕ) {p : Port} → Tracks s₀ h p → Tracks s₀ h (ticks machine n p)
+pub tracks-ticks : {s₀ : ℕ} {h : History} (n : ℕ) {p : Timetable} → Tracks s₀ h p → Tracks s₀ h (ticks timetableMachine n p)
 unfolding ticks
 tracks-ticks zero k = k
 tracks-ticks (suc n) k = tracks-ticks n (tracks-tick k)
@@ -83,7 +84,7 @@ octetBy-operating st (w ∷ l) c t h = go (leb (w .config .start) c) refl l
     go false e [] = refl
     go false e (v ∷ l) = refl
 
-pub tracks-shown : {s₀ : ℕ} {h : History} {p : Port} → Tracks s₀ h p → (t : ℕ) → p .clock ≤ t → shown p t ≡ ruleOctet s₀ h t
+pub tracks-shown : {s₀ : ℕ} {h : History} {p : Timetable} → Tracks s₀ h p → (t : ℕ) → p .clock ≤ t → shown p t ≡ ruleOctet s₀ h t
 unfolding shown ruleOctet
 tracks-shown {s₀} {h} {p} k t c =
     (λ i. cond (k .mark i) (octetUnder (k .standing i) (k .operating i) (k .waiting i) t) (k .standing i))
@@ -115,13 +116,17 @@ newest-counts (w ∷ v ∷ l) t e = go (leb (w .config .start) t)
     go true = refl
     go false = refl
 
-raised : (b : Bool) (n : ℕ) → cond b (raise (n % 2 ^ 64)) (n % 2 ^ 64) ≡ cond b (suc n) n % 2 ^ 64
+-- a Counter64 is a count modulo 2^64
+pub raise-mod : (n : ℕ) → raise (n % 2 ^ 64) ≡ suc n % 2 ^ 64
 unfolding raise
-raised true n = mod-add-mod n (2 ^ 64) 1 ∙ ap (λ k. k % 2 ^ 64) (add-one n)
-raised false n = refl
+raise-mod n = mod-add-mod n (2 ^ 64) 1 ∙ ap (λ k. k % 2 ^ 64) (add-one n)
 
-pub tracks-perform : {s₀ : ℕ} {h : History} {p : Port} (a : Act) → accepts a p ≡ true → Tracks s₀ h p → Tracks s₀ ((p .clock, a) ∷ h) (perform a p)
-unfolding perform markOf standingOf submissionsOf ruleErrors operatingOf waitingOf submitted errorsAfter
+counted-on : (b : Bool) (n : ℕ) → cond b (raise (n % 2 ^ 64)) (n % 2 ^ 64) ≡ cond b (suc n) n % 2 ^ 64
+counted-on true n = raise-mod n
+counted-on false n = refl
+
+pub tracks-perform : {s₀ : ℕ} {h : History} {p : Timetable} (a : GateAct) → acceptsGates a p ≡ true → Tracks s₀ h p → Tracks s₀ ((p .clock, a) ∷ h) (performGates a p)
+unfolding markOf standingOf submissionsOf ruleErrors operatingOf waitingOf submitted errorsAfter
 tracks-perform on e k = record { mark = refl; standing = k .standing; operating = k .operating; waiting = k .waiting; errors = k .errors }
 tracks-perform off e k = record { mark = refl; standing = k .standing; operating = refl; waiting = refl; errors = k .errors }
 tracks-perform (standing o) e k = record { mark = k .mark; standing = refl; operating = k .operating; waiting = k .waiting; errors = k .errors }
@@ -134,21 +139,20 @@ tracks-perform {h = h} {p} (submit x) e k =
       waiting = refl;
       errors = (λ i. errorsAfter (p .clock) x (k .operating i) (k .errors i))
           ∙ ap (λ b. cond (ltb (x .base) (p .clock) && b) (raise (ruleErrors h % 2 ^ 64)) (ruleErrors h % 2 ^ 64)) (newest-counts (submissionsOf h) (p .clock) none)
-          ∙ raised (ltb (x .base) (p .clock) && operates (submissionsOf h) (p .clock)) (ruleErrors h);
+          ∙ counted-on (ltb (x .base) (p .clock) && operates (submissionsOf h) (p .clock)) (ruleErrors h);
     }
-tracks-perform (transmit hs v) e k = record { mark = k .mark; standing = k .standing; operating = k .operating; waiting = k .waiting; errors = k .errors }
 
-pub tracks-new : (t s₀ : ℕ) → Tracks s₀ [] (newPort t s₀)
-unfolding newPort markOf standingOf submissionsOf ruleErrors operatingOf waitingOf
+pub tracks-new : (t s₀ : ℕ) → Tracks s₀ [] (newTimetable t s₀)
+unfolding newTimetable markOf standingOf submissionsOf ruleErrors operatingOf waitingOf
 tracks-new t s₀ = record { mark = refl; standing = refl; operating = refl; waiting = refl; errors = refl }
 
--- whatever is called: the port says what the rule reads off the acts accepted on the way
-pub tracks-run : {s₀ : ℕ} (cs : List (Call Act)) {h : History} {p : Port} → Tracks s₀ h p
-    → Tracks s₀ (reverseAux (run machine cs p .acts) h) (run machine cs p .port)
+-- whatever is called: the timetable says what the rule reads off the acts accepted on the way
+pub tracks-run : {s₀ : ℕ} (cs : List (Call GateAct)) {h : History} {p : Timetable} → Tracks s₀ h p
+    → Tracks s₀ (reverseAux (run timetableMachine cs p .acts) h) (run timetableMachine cs p .port)
 unfolding run
 tracks-run [] k = k
-tracks-run (step g m ∷ cs) {p = p} k = tracks-run cs (tracks-ticks (elapsed machine (step g m) p) k)
+tracks-run (step g m ∷ cs) {p = p} k = tracks-run cs (tracks-ticks (elapsed timetableMachine (step g m) p) k)
 tracks-run {s₀} (attempt a ∷ cs) {h} {p} k =
-    cases (λ (r : Outcome Port ℕ Act). Tracks s₀ (reverseAux (r .acts) h) (r .port)) (accepts a p) _ _
+    cases (λ (r : Outcome Timetable ℕ GateAct). Tracks s₀ (reverseAux (r .acts) h) (r .port)) (acceptsGates a p) _ _
     (λ e. tracks-run cs (tracks-perform a e k))
     (λ _. tracks-run cs k)

@@ -12,13 +12,16 @@ use native.Mathlib.Omega.{arith}
 use lib.Dec.{eqb, ltb}
 use borrow.Author.Tests.{eq-eqb, ne-eqb, eqb-true, eqb-false, lt-ltb, le-ltb, ltb-true, ltb-false}
 use Rattle.rule.specs.Gates.{isOpen}
-use Rattle.rule.specs.Port.{Port, Frame, shown, shownNow, tick}
+use Rattle.rule.specs.Timetable.{Timetable, shown, shownNow, tick}
+use Rattle.rule.specs.Port.{Frame, lastOctetAt}
 use Rattle.rule.specs.Choice.{staysOpen}
 use Rattle.rule.specs.Machine.{ticks, onward, reach}
-use Rattle.rule.specs.PortMachine.{machine}
-use Rattle.rule.specs.History.{changes, meets}
+use Rattle.rule.specs.Machines.{timetableMachine}
+use Rattle.rule.specs.History.{changes}
+use Rattle.rule.specs.Frames.{meetsClosed}
 use Rattle.rule.proofs.Shown.{now-ticks}
 use Rattle.rule.proofs.Changes.{changes-add, changes-to, quiet}
+use Rattle.rule.proofs.Jump.{meets}
 
 -- how far a step with room for m changes gets, by what is shown
 unfoldable pub reachBy : (ℕ → ℕ) → ℕ → ℕ → ℕ → ℕ
@@ -30,17 +33,17 @@ past-cong true m f h e = ap suc (e m)
 past-cong false zero f h e = refl
 past-cong false (suc r) f h e = ap suc (e r)
 
-reach-by : (g : ℕ → ℕ) (n m : ℕ) (p : Port) → ((k : ℕ) → shownNow (ticks machine k p) ≡ g (p .clock + k)) → reach machine n m p ≡ reachBy g (p .clock) n m
+reach-by : (g : ℕ → ℕ) (n m : ℕ) (p : Timetable) → ((k : ℕ) → shownNow (ticks timetableMachine k p) ≡ g (p .clock + k)) → reach timetableMachine n m p ≡ reachBy g (p .clock) n m
 unfolding reach reachBy ticks tick
 reach-by g zero m p h = refl
 reach-by g (suc n) m p h =
     let e₀ : shownNow p ≡ g (p .clock) = rw add-zero at (h 0) in
     let e₁ : shownNow (tick p) ≡ g (suc (p .clock)) = rw add-one at (h 1) in
-    (λ i. onward (eqb (e₀ i) (e₁ i)) m (λ r. reach machine n r (tick p)))
-    ∙ past-cong (eqb (g (p .clock)) (g (suc (p .clock)))) m (λ r. reach machine n r (tick p)) (λ r. reachBy g (suc (p .clock)) n r)
+    (λ i. onward (eqb (e₀ i) (e₁ i)) m (λ r. reach timetableMachine n r (tick p)))
+    ∙ past-cong (eqb (g (p .clock)) (g (suc (p .clock)))) m (λ r. reach timetableMachine n r (tick p)) (λ r. reachBy g (suc (p .clock)) n r)
     (λ r. reach-by g n r (tick p) (λ k. rw (suc-add, ← add-suc) (h (suc k))))
 
-pub reach-shown : (n m : ℕ) (p : Port) → reach machine n m p ≡ reachBy (shown p) (p .clock) n m
+pub reach-shown : (n m : ℕ) (p : Timetable) → reach timetableMachine n m p ≡ reachBy (shown p) (p .clock) n m
 reach-shown n m p = reach-by (shown p) n m p (λ k. now-ticks k p)
 
 -- instants that show the same cost no room
@@ -163,7 +166,7 @@ read-back g t (suc n) = go (eqb (g t) (g (suc t))) refl (changes g (suc t) n) re
 -- an uncounted frame's gate is closed in o at an instant from lo on, before hi and before its end
 unfoldable pub shutIn : Option Frame → ℕ → ℕ → ℕ → Bool
 shutIn none o lo hi = false
-shutIn (some f) o lo hi = not (f .counted) && (ltb lo hi && (ltb lo (f .end) && not (isOpen o (f .class))))
+shutIn (some f) o lo hi = not (f .counted) && (ltb lo hi && (ltb lo (lastOctetAt f) && not (isOpen o (f .class))))
 
 stays-add : (g : ℕ → ℕ) (k t m n : ℕ) → staysOpen g k t (m + n) ≡ staysOpen g k t m && staysOpen g k (t + m) n
 unfolding staysOpen
@@ -233,32 +236,32 @@ meets-either false true true true o = refl
 -- instants more, up to u, at which the octet is one
 pub meets-more : (g : ℕ → ℕ) (c t u o : ℕ) (r : Option Frame) → c ≤ t → t ≤ u → ((v : ℕ) → t < v → v ≤ u → g v ≡ o)
     → meets g c (t - c) r || shutIn r o (t + 1) (u + 1) ≡ meets g c (u - c) r
-unfolding meets shutIn
+unfolding meets meetsClosed shutIn
 meets-more g c t u o none a b h = refl
 meets-more g c t u o (some f) a b h =
     let k : ℕ = f .class in
-    let m : ℕ = min (t - c) (f .end - suc c) in
-    let n : ℕ = min (u - t) (f .end - suc t) in
-    let z : staysOpen g k (suc c) (min (u - c) (f .end - suc c)) ≡ staysOpen g k (suc c) m && cond (ltb (t + 1) (u + 1) && ltb (t + 1) (f .end)) (isOpen o k) true =
-    ap (staysOpen g k (suc c)) (span-split c t u (f .end) a b) ∙ stays-add g k (suc c) m n
-    ∙ ap (λ q. staysOpen g k (suc c) m && q) (flat ∙ ap (λ q. cond q (isOpen o k) true) (span-some t u (f .end) b)) in
-    meets-either (f .counted) (staysOpen g k (suc c) m) (ltb (t + 1) (u + 1)) (ltb (t + 1) (f .end)) (isOpen o k)
+    let m : ℕ = min (t - c) (lastOctetAt f - suc c) in
+    let n : ℕ = min (u - t) (lastOctetAt f - suc t) in
+    let z : staysOpen g k (suc c) (min (u - c) (lastOctetAt f - suc c)) ≡ staysOpen g k (suc c) m && cond (ltb (t + 1) (u + 1) && ltb (t + 1) (lastOctetAt f)) (isOpen o k) true =
+    ap (staysOpen g k (suc c)) (span-split c t u (lastOctetAt f) a b) ∙ stays-add g k (suc c) m n
+    ∙ ap (λ q. staysOpen g k (suc c) m && q) (flat ∙ ap (λ q. cond q (isOpen o k) true) (span-some t u (lastOctetAt f) b)) in
+    meets-either (f .counted) (staysOpen g k (suc c) m) (ltb (t + 1) (u + 1)) (ltb (t + 1) (lastOctetAt f)) (isOpen o k)
     ∙ ap (λ q. not (f .counted) && not q) (sym z)
   where
-    flat : staysOpen g (f .class) (suc c + min (t - c) (f .end - suc c)) (min (u - t) (f .end - suc t))
-        ≡ cond (ltb 0 (min (u - t) (f .end - suc t))) (isOpen o (f .class)) true
-    flat = go (ltb (suc t) (f .end)) refl
+    flat : staysOpen g (f .class) (suc c + min (t - c) (lastOctetAt f - suc c)) (min (u - t) (lastOctetAt f - suc t))
+        ≡ cond (ltb 0 (min (u - t) (lastOctetAt f - suc t))) (isOpen o (f .class)) true
+    flat = go (ltb (suc t) (lastOctetAt f)) refl
       where
-        go : (q : Bool) → ltb (suc t) (f .end) ≡ q → staysOpen g (f .class) (suc c + min (t - c) (f .end - suc c)) (min (u - t) (f .end - suc t))
-            ≡ cond (ltb 0 (min (u - t) (f .end - suc t))) (isOpen o (f .class)) true
+        go : (q : Bool) → ltb (suc t) (lastOctetAt f) ≡ q → staysOpen g (f .class) (suc c + min (t - c) (lastOctetAt f - suc c)) (min (u - t) (lastOctetAt f - suc t))
+            ≡ cond (ltb 0 (min (u - t) (lastOctetAt f - suc t))) (isOpen o (f .class)) true
         go true e =
-            let w : suc t < f .end = ltb-true (suc t) (f .end) e in
-            let z : suc c + min (t - c) (f .end - suc c) ≡ suc t = omega arith in
-            ap (λ v. staysOpen g (f .class) v (min (u - t) (f .end - suc t))) z
-            ∙ stays-flat g (f .class) (suc t) (min (u - t) (f .end - suc t)) o (λ v p q. h v (omega arith) (omega arith)) (isOpen o (f .class)) refl
+            let w : suc t < lastOctetAt f = ltb-true (suc t) (lastOctetAt f) e in
+            let z : suc c + min (t - c) (lastOctetAt f - suc c) ≡ suc t = omega arith in
+            ap (λ v. staysOpen g (f .class) v (min (u - t) (lastOctetAt f - suc t))) z
+            ∙ stays-flat g (f .class) (suc t) (min (u - t) (lastOctetAt f - suc t)) o (λ v p q. h v (omega arith) (omega arith)) (isOpen o (f .class)) refl
         go false e =
-            let w : f .end ≤ suc t = ltb-false (suc t) (f .end) e in
-            stays-none g (f .class) (suc c + min (t - c) (f .end - suc c)) (min (u - t) (f .end - suc t)) (omega arith) (isOpen o (f .class))
+            let w : lastOctetAt f ≤ suc t = ltb-false (suc t) (lastOctetAt f) e in
+            stays-none g (f .class) (suc c + min (t - c) (lastOctetAt f - suc c)) (min (u - t) (lastOctetAt f - suc t)) (omega arith) (isOpen o (f .class))
 
 -- what was met stays met, and after the frame's end nothing is met any more
 
@@ -268,18 +271,18 @@ stays-less g k t m n h e =
     ap (staysOpen g k t) z ∙ stays-add g k t m (n - m) ∙ rw e
 
 pub meets-later : (g : ℕ → ℕ) (c m n : ℕ) (r : Option Frame) → m ≤ n → meets g c m r ≡ true → meets g c n r ≡ true
-unfolding meets
+unfolding meets meetsClosed
 meets-later g c m n none h e = e
-meets-later g c m n (some f) h e = go (f .counted) (staysOpen g (f .class) (suc c) (min m (f .end - suc c))) refl e
+meets-later g c m n (some f) h e = go (f .counted) (staysOpen g (f .class) (suc c) (min m (lastOctetAt f - suc c))) refl e
   where
-    go : (q s : Bool) → staysOpen g (f .class) (suc c) (min m (f .end - suc c)) ≡ s → not q && not s ≡ true
-        → not q && not (staysOpen g (f .class) (suc c) (min n (f .end - suc c))) ≡ true
+    go : (q s : Bool) → staysOpen g (f .class) (suc c) (min m (lastOctetAt f - suc c)) ≡ s → not q && not s ≡ true
+        → not q && not (staysOpen g (f .class) (suc c) (min n (lastOctetAt f - suc c))) ≡ true
     go true s w z = z
     go false true w z = absurd (true≢false (sym z))
-    go false false w z = ap not (stays-less g (f .class) (suc c) (min m (f .end - suc c)) (min n (f .end - suc c)) (omega arith) w)
+    go false false w z = ap not (stays-less g (f .class) (suc c) (min m (lastOctetAt f - suc c)) (min n (lastOctetAt f - suc c)) (omega arith) w)
 
-pub meets-ended : (g : ℕ → ℕ) (c t u : ℕ) (f : Frame) → c ≤ t → t ≤ u → f .end ≤ suc t → meets g c (u - c) (some f) ≡ meets g c (t - c) (some f)
-unfolding meets
+pub meets-ended : (g : ℕ → ℕ) (c t u : ℕ) (f : Frame) → c ≤ t → t ≤ u → lastOctetAt f ≤ suc t → meets g c (u - c) (some f) ≡ meets g c (t - c) (some f)
+unfolding meets meetsClosed
 meets-ended g c t u f a b h =
-    let e : min (u - c) (f .end - suc c) ≡ min (t - c) (f .end - suc c) = omega arith in
+    let e : min (u - c) (lastOctetAt f - suc c) ≡ min (t - c) (lastOctetAt f - suc c) = omega arith in
     ap (λ n. not (f .counted) && not (staysOpen g (f .class) (suc c) n)) e

@@ -9,14 +9,15 @@ use Prim.Native.Nat.{ℕ, zero, suc, _+_, _-_, _*_, _/_}
 use lib.Dec.{eqb}
 use lib.ListN.{getD}
 use Rattle.rule.specs.Gates.{isOpen}
-use Rattle.rule.specs.Port.{Port, Frame, octetUnder}
+use Rattle.rule.specs.Timetable.{Timetable, octetUnder}
+use Rattle.rule.specs.Port.{Frame}
 
 -- so many ns a frame of a length takes at a speed in Mbit/s
 unfoldable pub duration : ℕ → ℕ → ℕ
 duration len speed = (len + 8) * 8_000 / speed
 
 -- what the look ahead counts on: the plain cycles of what operates, or the standing octet
-unfoldable pub lookAhead : Port → ℕ → ℕ
+unfoldable pub lookAhead : Timetable → ℕ → ℕ
 lookAhead p t = octetUnder (p .standing) (p .operating) none t
 
 -- the class's gate is open at each of the n instants from t on, as g shows them

@@ -3,11 +3,12 @@ pub mod Refusals
 pub mod Gates
 pub mod Entries
 pub mod Cycle
+pub mod Timetable
 pub mod Port
 pub mod Choice
 pub mod Acts
 pub mod Orders
 pub mod Machine
-pub mod PortMachine
+pub mod Machines
 pub mod History
-pub mod Sound
+pub mod Frames

@@ -1,7 +1,6 @@
 -- A machine that goes on by one nanosecond at a time, is acted on between, and shows something at every instant. Nothing of gates is in it: cutting a
 -- span into steps, the room of each step and refused calls (document 01, 'Step', and demand 3) are spoken of here, once.
 -- Assumes nothing.
-use mathlib.Core.Path.{_≡_}
 use mathlib.Core.Bool.{Bool, true, false, cond}
 use mathlib.Core.List.{List, [], _∷_, _++_}
 use Prim.Native.Nat.{ℕ, zero, suc, _-_}
@@ -19,9 +18,6 @@ pub record Machine : Type 1 where
   pub accepts : Act → State → Bool
   pub perform : Act → State → State
   pub acceptsGoal : ℕ → State → Bool
-  -- the laws: a tick is one instant, an act takes no time
-  pub clock-tick : (s : State) → clock (tick s) ≡ suc (clock s)
-  pub clock-perform : (a : Act) (s : State) → clock (perform a s) ≡ clock s
 
 -- a call: a step towards a goal with room for so many changes, or an act; either may be refused
 pub data Call (A : Type 0) : Type 0 where
@@ -67,7 +63,7 @@ module _ (M : Machine) where
 
   -- the instants that a call lets pass: none if it is refused, or an act
   unfoldable pub elapsed : Call Act → State → ℕ
-  elapsed (step goal room) s = elim (acceptsGoal goal s) [ true ↦ reach (goal - clock s) room s | false ↦ 0 ]
+  elapsed (step goal room) s = cond (acceptsGoal goal s) (reach (goal - clock s) room s) 0
   elapsed (attempt a) s = 0
 
   unfoldable pub run : List (Call Act) → State → Outcome State Out Act

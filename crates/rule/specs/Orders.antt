@@ -3,6 +3,7 @@
 -- Assumes nothing.
 use mathlib.Core.Bool.{Bool, true, false, cond, not, _&&_}
 use mathlib.Core.List.{List, [], _∷_}
+use mathlib.Core.Option.{Option}
 use Prim.Native.Nat.{ℕ, _-_}
 use lib.Dec.{leb, ltb, eqb}
 use lib.ListN.{length}
@@ -12,8 +13,9 @@ use Rattle.rule.specs.declared.Refusal.the-variants.{ZeroInterval, ListL
 use Rattle.rule.specs.Refusals.{firstOf, accepted}
 use Rattle.rule.specs.Entries.{Entry}
 use Rattle.rule.specs.Cycle.{cycleOffered}
-use Rattle.rule.specs.Port.{Port}
-use Rattle.rule.specs.Acts.{Act, on, off, standing, submit, transmit, Submission, isSome}
+use Rattle.rule.specs.Timetable.{Timetable}
+use Rattle.rule.specs.Port.{Port, Frame}
+use Rattle.rule.specs.Acts.{GateAct, on, off, standing, submit, Act, gates, transmit, Submission, isSome}
 
 abbrev pub any : {A : Type 0} → (A → Bool) → List A → Bool
 any f [] = false
@@ -33,38 +35,44 @@ unfoldable pub headOffered : ℕ → Bool
 headOffered n = cond (eqb n 0) true (leb shortestFrame n && leb n longestFrame)
 
 -- Submit: 6, 7, 8, 9, 5, 4
-unfoldable pub submitOrder : Submission → Port → List (Bool × Refusal)
+unfoldable pub submitOrder : Submission → Timetable → List (Bool × Refusal)
 submitOrder x p =
     (not (p .on), SwitchedOff) ∷ (isSome (p .waiting), ChangeWaits) ∷ (not (cycleOffered (x .numerator) (x .denominator)), CycleTime)
     ∷ (ltb largestInstant (x .base), AboveLargest) ∷ (not (lengthOffered (length (x .list))), ListLength)
     ∷ (hasZeroInterval (x .list), ZeroInterval) ∷ []
 
 -- Transmit: 13, 17, 12
-unfoldable pub transmitOrder : List ℕ → ℕ → Port → List (Bool × Refusal)
-transmitOrder heads speed p =
-    (not (speedOffered speed), Speed) ∷ (isSome (p .frame), FrameSending) ∷ (any (λ n. not (headOffered n)) heads, HeadLength) ∷ []
+unfoldable pub transmitOrder : List ℕ → ℕ → Option Frame → List (Bool × Refusal)
+transmitOrder heads speed f =
+    (not (speedOffered speed), Speed) ∷ (isSome f, FrameSending) ∷ (any (λ n. not (headOffered n)) heads, HeadLength) ∷ []
 
 -- On, off, standing: none
+abbrev pub gateOrder : GateAct → Timetable → List (Bool × Refusal)
+gateOrder on p = []
+gateOrder off p = []
+gateOrder (standing octet) p = []
+gateOrder (submit x) p = submitOrder x p
+
 abbrev pub actOrder : Act → Port → List (Bool × Refusal)
-actOrder on p = []
-actOrder off p = []
-actOrder (standing octet) p = []
-actOrder (submit x) p = submitOrder x p
-actOrder (transmit heads speed) p = transmitOrder heads speed p
+actOrder (gates a) p = gateOrder a (p .gates)
+actOrder (transmit heads speed) p = transmitOrder heads speed (p .frame)
 
--- Step: 9, 10, 11. Look: 9, 10. New: 9
-unfoldable pub stepOrder : ℕ → Port → List (Bool × Refusal)
-stepOrder goal p =
-    (ltb largestInstant goal, AboveLargest) ∷ (ltb goal (p .clock), BeforeClock) ∷ (ltb largestStep (goal - p .clock), StepTooLong) ∷ []
+-- Step: 9, 10, 11, with the longest step that the call allows. Look: 9, 10. New: 9
+unfoldable pub stepOrder : ℕ → ℕ → Timetable → List (Bool × Refusal)
+stepOrder longest goal p =
+    (ltb largestInstant goal, AboveLargest) ∷ (ltb goal (p .clock), BeforeClock) ∷ (ltb longest (goal - p .clock), StepTooLong) ∷ []
 
-unfoldable pub lookOrder : ℕ → Port → List (Bool × Refusal)
+unfoldable pub lookOrder : ℕ → Timetable → List (Bool × Refusal)
 lookOrder t p = (ltb largestInstant t, AboveLargest) ∷ (ltb t (p .clock), BeforeClock) ∷ []
 
 unfoldable pub newOrder : ℕ → List (Bool × Refusal)
 newOrder t = (ltb largestInstant t, AboveLargest) ∷ []
 
+unfoldable pub acceptsGates : GateAct → Timetable → Bool
+acceptsGates a p = accepted (firstOf (gateOrder a p))
+
 unfoldable pub accepts : Act → Port → Bool
 accepts a p = accepted (firstOf (actOrder a p))
 
-unfoldable pub acceptsGoal : ℕ → Port → Bool
-acceptsGoal goal p = accepted (firstOf (stepOrder goal p))
+unfoldable pub acceptsGoal : ℕ → Timetable → Bool
+acceptsGoal goal p = accepted (firstOf (stepOrder largestStep goal p))

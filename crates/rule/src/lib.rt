@@ -1,7 +1,6 @@
 // What a call declines with: a name for each number of document 01, 'Numbers returned when a call declines'. Every crate above uses these names;
 // the number itself is for whoever prints or stores an answer.
-ghost use mathlib.Core.Path.{_≡_};
-ghost use Rattle.rule.specs.Refusals.{numberOf};
+ghost use Rattle.rule.specs.Refusals.{Numbers, First};
 
 pub enum Refusal {
     CutShort,
@@ -25,7 +24,7 @@ pub enum Refusal {
 
 // Document 01's number of a refusal, 1 to 17.
 pub fn number(r: Refusal) -> u8
-    ensures { λ n. ⌜ n ≡ numberOf r ⌝ }
+    ensures { λ n. ⌜ Numbers r n ⌝ }
 {
     match r {
         Refusal::CutShort => 1,
@@ -46,4 +45,20 @@ pub fn number(r: Refusal) -> u8
         Refusal::BufferShort => 16,
         Refusal::FrameSending => 17,
     }
+}
+
+// What an act answers: done, or refused for a reason.
+pub enum Answer {
+    Done,
+    Refused(Refusal),
+}
+
+// An order of refusals is a chain of tests: the first that holds gives its reason, else the rest of the chain answers.
+pub fn first(test: bool, reason: Refusal, rest: Answer) -> Answer
+    ensures { λ r. ⌜ First test reason rest r ⌝ }
+{
+    if test {
+        return Answer::Refused(reason);
+    }
+    rest
 }

@@ -3,7 +3,7 @@ use crate::words::Word;
 use crate::words::next_word;
 use crate::words::number;
 use gatelist::GateList;
-use gatelist::Written;
+use octets::Written;
 
 // The fields so far, which of them are given (a bit for each), the entries' octets in use, the line, and the error: 0 is none.
 pub struct Form {
@@ -144,7 +144,7 @@ fn with_entry(f: Form, octet: u8, interval: u32, list: &mut [u8]) -> Form {
         return failed(f, TOO_MANY);
     }
     let one = one_entry(octet, interval);
-    let w = one.write(&mut list[at..]);
+    let w = octets::write(one, &mut list[at..]);
     match w {
         Written::Unwritten(_) => failed(f, NO_INTERVAL),
         Written::Octets(_) => {

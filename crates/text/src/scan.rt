@@ -24,7 +24,7 @@ pub struct Taken {
     pub scan: Scan,
 }
 
-// The same at 8 and at 32 bits, and a mark of 0 or 1.
+// The same at 8 and at 32 bits.
 pub struct Taken8 {
     pub value: u8,
     pub scan: Scan,
@@ -32,11 +32,6 @@ pub struct Taken8 {
 
 pub struct Taken32 {
     pub value: u32,
-    pub scan: Scan,
-}
-
-pub struct TakenMark {
-    pub value: bool,
     pub scan: Scan,
 }
 
@@ -222,16 +217,6 @@ pub fn number8(s: &[u8], c: Scan) -> Taken8 {
     let scan = t.scan;
     Taken8 {
         value: t.value as u8,
-        scan,
-    }
-}
-
-// Takes a mark.
-pub fn mark(s: &[u8], c: Scan) -> TakenMark {
-    let t = number(s, c, 1);
-    let scan = t.scan;
-    TakenMark {
-        value: t.value == 1,
         scan,
     }
 }

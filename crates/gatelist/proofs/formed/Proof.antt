@@ -1,6 +1,6 @@
 -- `gatelist::formed` meets its contract: each branch makes the tests of its side of the definition.
 -- Assumes nothing.
-use mathlib.Core.Path.{_≡_, ap, sym, _∙_}
+use mathlib.Core.Path.{ap, sym, _∙_}
 use borrow.Author.Needs.{needs}
 use Rattle.gatelist.specs.Sound.{listFormed}
 use Rattle.gatelist.proofs.Sound.{ok-test, none-test}

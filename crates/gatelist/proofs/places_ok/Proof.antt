@@ -1,6 +1,5 @@
 -- `gatelist::places_ok` meets its contract: a place is good by three tests, each made of all places in a loop of its own.
 -- Assumes nothing.
-use mathlib.Core.Path.{_≡_, _∙_}
 use borrow.Author.Needs.{needs}
 use Rattle.gatelist.proofs.Sound.{places-three}
 use Rattle.gatelist.proofs.places_ok.Statement.{statement}

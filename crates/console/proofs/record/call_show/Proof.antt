@@ -17,11 +17,17 @@ returns c = search needs
 say-gates-requires : tie.Need-say-gates-requires
 say-gates-requires c κs = search needs
 
-say-config-requires : tie.Need-say-config-requires
-say-config-requires c κs = search needs
+say-operating-requires : tie.Need-say-operating-requires
+say-operating-requires c κs = search needs
+
+say-list-requires : tie.Need-say-list-requires
+say-list-requires c κs = search needs
 
 say-waiting-requires : tie.Need-say-waiting-requires
 say-waiting-requires c κs = search needs
+
+say-list-requires-2 : tie.Need-say-list-requires-2
+say-list-requires-2 c κs = search needs
 
 say-counts-requires : tie.Need-say-counts-requires
 say-counts-requires c κs = search needs
@@ -30,7 +36,7 @@ answered-requires : tie.Need-answered-requires
 answered-requires c κs = search needs
 
 same-length : tie.Need-same-length
-same-length c = c .before .before .before .say-counts .kept .0 ∙ c .before .before .before .before .before .before .before .before .before .say-waiting .kept .0 ∙ c .before .before .before .before .before .before .before .before .before .before .before .before .before .say-config .kept .0 ∙ c .before .before .before .before .before .before .before .before .before .before .before .before .before .before .before .before .before .say-gates .kept .0
+same-length c = c .before .before .before .say-counts .kept .0 ∙ c .before .before .before .before .before .before .before .before .before .say-list2 .kept .0 ∙ c .before .before .before .before .before .before .before .before .before .before .before .before .before .before .before .before .say-waiting .kept .0 ∙ c .before .before .before .before .before .before .before .before .before .before .before .before .before .before .before .before .before .before .before .before .say-list .kept .0 ∙ c .before .before .before .before .before .before .before .before .before .before .before .before .before .before .before .before .before .before .before .before .before .before .before .before .before .before .before .say-operating .kept .0 ∙ c .before .before .before .before .before .before .before .before .before .before .before .before .before .before .before .before .before .before .before .before .before .before .before .before .before .before .before .before .before .before .before .say-gates .kept .0
 
 returns-2 : tie.Need-returns-2
 returns-2 c = search needs
@@ -43,8 +49,10 @@ call-show-spec =
     no-call-requires
     returns
     say-gates-requires
-    say-config-requires
+    say-operating-requires
+    say-list-requires
     say-waiting-requires
+    say-list-requires-2
     say-counts-requires
     answered-requires
     same-length

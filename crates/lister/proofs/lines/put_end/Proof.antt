@@ -51,7 +51,7 @@ returns c =
     let e = c .before .before .before .before .before .before .before .before .before .before .before .before .before .errors .ensures in
     let t = c .before .before .before .before .before .before .before .before .before .before .before .before .before .before .clock .ensures ∙ sym (clock-decode p) in
     fills-as _ (lastLine (decode p)) _ _ _ (λ i. endLine (t i) (c .before .before .before .before .before .before .before .before .before .before .before .before .before .before .before .shown .ensures i) ((e .0 ∙ sym (errors-decode p)) i))
-    (end-fills (a .page .now) (omega arith) _ _ (omega (arith, t, f .sound .clock)) _ (e .1)
+    (end-fills (a .page .now) (omega arith) _ _ (omega (arith, t, f .sound .gates .clock)) _ (e .1)
     _ _ (c .before .before .before .before .before .before .before .before .before .before .put .ensures) _ _ (c .before .before .before .before .before .before .before .before .moment .ensures) _ _ (c .before .before .before .before .before .put2 .ensures) _ _ (c .before .before .before .decimal .ensures) _ _ (c .put3 .ensures))
 
 pub put-end-spec : {M : Type 1} → statement M

@@ -32,7 +32,7 @@ returns c =
     let f = c .before .before .before .before .before .before .before .pre in
     let t = c .before .before .before .before .before .clock .ensures ∙ sym (clock-decode p) in
     fills-as _ (firstLine (decode p)) _ _ _ (λ i. startLine (t i) (c .before .before .before .before .before .before .shown .ensures i))
-    (start-fills (a .page .now) (omega arith) _ _ (omega (arith, t, f .sound .clock)) _ _ (c .before .before .put .ensures) _ _ (c .line .ensures .0))
+    (start-fills (a .page .now) (omega arith) _ _ (omega (arith, t, f .sound .gates .clock)) _ _ (c .before .before .put .ensures) _ _ (c .line .ensures .0))
 
 pub put-start-spec : {M : Type 1} → statement M
 put-start-spec =

@@ -6,7 +6,7 @@ use native.Mathlib.Omega.{arith}
 use lib.ListN.{length, drop, length-drop, drop-of-length-le}
 use lib.Seq.{take-all}
 use borrow.Author.Needs.{needs}
-use Rattle.gatelist.specs.Octets.{readList}
+use Rattle.octets.specs.Octets.{readList}
 use Rattle.lister.proofs.opening.list_at.Statement.{statement}
 use Rattle.lister.proofs.opening.list_at.Tie as tie
 

@@ -1,6 +1,6 @@
 -- `lister::opening::with_end` meets its contract: a step's answer does not depend on its room.
 -- Assumes nothing.
-use mathlib.Core.Path.{refl, sym, _∙_}
+use mathlib.Core.Path.{refl}
 use borrow.Author.Needs.{needs}
 use Rattle.lister.proofs.Opened.{refused-by, step-refused, step-taken, opens-span}
 use Rattle.lister.proofs.opening.with_end.Statement.{statement}
@@ -34,13 +34,13 @@ returns : tie.Need-returns
 returns c =
     let a = c .before .before .before .before .before .before .before .before .before .args in
     let s = c .before .before .before .before .before .before .step in
-    refused-by _ _ _ _ (step-refused (a .p) (c .before .before .before .before .before .before .before .before .before .pre) (a .end) _ _ (sym (s .ensures .answer) ∙ c .before .before .a .given .1)) (c .refused .ensures)
+    refused-by _ _ _ _ (step-refused (a .p) (c .before .before .before .before .before .before .before .before .before .pre) (a .end) _ (s .ensures .number) _ (c .before .before .a .given .1)) (c .refused .ensures)
 
 returns-2 : tie.Need-returns-2
 returns-2 c =
     let a = c .before .before .before .before .before .before .before .args in
     let s = c .before .before .before .before .step in
-    opens-span (a .p) (c .before .before .before .before .before .before .before .pre) (a .end) (step-taken (a .p) (c .before .before .before .before .before .before .before .pre) (a .end) _ _ (sym (s .ensures .answer) ∙ c .enum-told .given .1)) _ refl refl refl
+    opens-span (a .p) (c .before .before .before .before .before .before .before .pre) (a .end) (step-taken (a .p) (c .before .before .before .before .before .before .before .pre) (a .end) _ (s .ensures .number) _ (c .enum-told .given .1)) _ refl refl refl
 
 pub with-end-spec : {M : Type 1} → statement M
 with-end-spec =

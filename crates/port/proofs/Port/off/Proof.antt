@@ -1,11 +1,13 @@
--- `port::Port::off` meets its contract: one law for each way out, shared by the acts, and what the act makes of the record.
+-- `port::Port::off` meets its contract: one law for each way out, shared by the acts, and what the act makes of the timetable.
 -- Assumes nothing.
-use mathlib.Core.Path.{refl, sym, _∙_}
 use borrow.Author.Needs.{needs}
+use mathlib.Core.Path.{refl, sym, _∙_}
 use borrow.Author.Tests.{not-true, not-false}
 use Rattle.rule.specs.Acts as model
 use Rattle.rule.specs.Orders.{accepts}
-use Rattle.port.proofs.Performing.{act-malformed, act-fine, act-done, off-is}
+use Rattle.timetable.proofs.Records.{off-is}
+use Rattle.port.proofs.Coding.{gates-fine}
+use Rattle.port.proofs.Performing.{act-malformed, act-fine, act-done, gates-is}
 use Rattle.port.proofs.Port.off.Statement.{statement}
 use Rattle.port.proofs.Port.off.Tie as tie
 
@@ -18,28 +20,28 @@ malformed-requires c κs = search needs
 returns : tie.Need-returns
 returns c =
     let w = c .before .before in
-    let a = w .before .args in
-    act-malformed model.off (a .self) _ (sym (w .well-formed .ensures .is) ∙ not-true _ (c .before .if1 .taken)) (c .malformed .ensures)
+    let p = w .before .args .self in
+    act-malformed (model.gates model.off) p _ (sym (w .well-formed .ensures .is) ∙ not-true _ (c .before .if1 .taken)) (c .malformed .ensures)
 
-switched-off-requires : tie.Need-switched-off-requires
-switched-off-requires c κs = search needs
+cleared-requires : tie.Need-cleared-requires
+cleared-requires c κs = search needs
 
 done-requires : tie.Need-done-requires
 unfolding accepts
 done-requires c κs =
-    let w = c .before .before in
-    let a = w .before .args in
-    let k = w .well-formed .ensures .fine (not-false _ (c .before .if1 .left)) in
-    act-fine model.off (a .self) k refl _ (c .switched-off .ensures ∙ off-is (a .self) k)
+    let w = c .before .before .before in
+    let p = w .before .args .self in
+    let k = w .well-formed .ensures .fine (not-false _ (c .before .before .if1 .left)) in
+    act-fine (model.gates model.off) p k refl _ (gates-is model.off p _ k (c .cleared .ensures ∙ off-is (p .gates) (gates-fine p k)))
 
 returns-2 : tie.Need-returns-2
 unfolding accepts
 returns-2 c =
-    let w = c .before .before .before in
-    let a = w .before .args in
-    let e = not-false _ (c .before .before .if1 .left) in
+    let w = c .before .before .before .before in
+    let p = w .before .args .self in
+    let e = not-false _ (c .before .before .before .if1 .left) in
     let k = w .well-formed .ensures .fine e in
-    act-done model.off (a .self) k refl _ (c .before .switched-off .ensures ∙ off-is (a .self) k) _ (sym (w .well-formed .ensures .is) ∙ e) (c .done .ensures)
+    act-done (model.gates model.off) p k refl _ (gates-is model.off p _ k (c .before .cleared .ensures ∙ off-is (p .gates) (gates-fine p k))) _ (sym (w .well-formed .ensures .is) ∙ e) (c .done .ensures)
 
 pub off-spec : {M : Type 1} → statement M
 off-spec =
@@ -48,6 +50,6 @@ off-spec =
     well-formed-requires
     malformed-requires
     returns
-    switched-off-requires
+    cleared-requires
     done-requires
     returns-2)

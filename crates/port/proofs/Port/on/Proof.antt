@@ -1,11 +1,13 @@
--- `port::Port::on` meets its contract: one law for each way out, shared by the acts, and what the act makes of the record.
+-- `port::Port::on` meets its contract: one law for each way out, shared by the acts, and what the act makes of the timetable.
 -- Assumes nothing.
-use mathlib.Core.Path.{refl, sym, _∙_}
 use borrow.Author.Needs.{needs}
+use mathlib.Core.Path.{refl, sym, _∙_}
 use borrow.Author.Tests.{not-true, not-false}
 use Rattle.rule.specs.Acts as model
 use Rattle.rule.specs.Orders.{accepts}
-use Rattle.port.proofs.Performing.{act-malformed, act-fine, act-done, on-is}
+use Rattle.timetable.proofs.Records.{on-is}
+use Rattle.port.proofs.Coding.{gates-fine}
+use Rattle.port.proofs.Performing.{act-malformed, act-fine, act-done, gates-is}
 use Rattle.port.proofs.Port.on.Statement.{statement}
 use Rattle.port.proofs.Port.on.Tie as tie
 
@@ -18,28 +20,28 @@ malformed-requires c κs = search needs
 returns : tie.Need-returns
 returns c =
     let w = c .before .before in
-    let a = w .before .args in
-    act-malformed model.on (a .self) _ (sym (w .well-formed .ensures .is) ∙ not-true _ (c .before .if1 .taken)) (c .malformed .ensures)
+    let p = w .before .args .self in
+    act-malformed (model.gates model.on) p _ (sym (w .well-formed .ensures .is) ∙ not-true _ (c .before .if1 .taken)) (c .malformed .ensures)
 
-with-gates-requires : tie.Need-with-gates-requires
-with-gates-requires c κs = search needs
+with-times-requires : tie.Need-with-times-requires
+with-times-requires c κs = search needs
 
 done-requires : tie.Need-done-requires
 unfolding accepts
 done-requires c κs =
-    let w = c .before .before in
-    let a = w .before .args in
-    let k = w .well-formed .ensures .fine (not-false _ (c .before .if1 .left)) in
-    act-fine model.on (a .self) k refl _ (c .with-gates .ensures ∙ on-is (a .self) k)
+    let w = c .before .before .before in
+    let p = w .before .args .self in
+    let k = w .well-formed .ensures .fine (not-false _ (c .before .before .if1 .left)) in
+    act-fine (model.gates model.on) p k refl _ (c .with-times .ensures ∙ gates-is model.on p _ k (on-is (p .gates) (gates-fine p k)))
 
 returns-2 : tie.Need-returns-2
 unfolding accepts
 returns-2 c =
-    let w = c .before .before .before in
-    let a = w .before .args in
-    let e = not-false _ (c .before .before .if1 .left) in
+    let w = c .before .before .before .before in
+    let p = w .before .args .self in
+    let e = not-false _ (c .before .before .before .if1 .left) in
     let k = w .well-formed .ensures .fine e in
-    act-done model.on (a .self) k refl _ (c .before .with-gates .ensures ∙ on-is (a .self) k) _ (sym (w .well-formed .ensures .is) ∙ e) (c .done .ensures)
+    act-done (model.gates model.on) p k refl _ (c .before .with-times .ensures ∙ gates-is model.on p _ k (on-is (p .gates) (gates-fine p k))) _ (sym (w .well-formed .ensures .is) ∙ e) (c .done .ensures)
 
 pub on-spec : {M : Type 1} → statement M
 on-spec =
@@ -48,6 +50,6 @@ on-spec =
     well-formed-requires
     malformed-requires
     returns
-    with-gates-requires
+    with-times-requires
     done-requires
     returns-2)

@@ -1,15 +1,16 @@
--- `port::Port::step` meets its contract: its course looks at the port's times and lists alone, and the port is moved to where that ends.
+-- `port::Port::step` meets its contract: the timetable travels, what the frame met is read back from the changes written, and each part of the port goes on
+-- to where that ends.
 -- Assumes nothing.
-use Rattle.port.proofs.Stepping.{step-stays, step-goes, course-fine}
 use borrow.Author.Needs.{needs}
+use Rattle.port.proofs.Travelling.{step-stays, legible, step-goes}
 use Rattle.port.proofs.Port.step.Statement.{statement}
 use Rattle.port.proofs.Port.step.Tie as tie
 
-outline-of-requires : tie.Need-outline-of-requires
-outline-of-requires c κs = search needs
+frame-formed-requires : tie.Need-frame-formed-requires
+frame-formed-requires c κs = search needs
 
-outcome-requires : tie.Need-outcome-requires
-outcome-requires c κs = search needs
+travel-requires : tie.Need-travel-requires
+travel-requires c κs = search needs
 
 enum-known-c : tie.Need-enum-known-c
 enum-known-c c = search needs
@@ -17,11 +18,25 @@ enum-known-c c = search needs
 enum-known-c-2 : tie.Need-enum-known-c-2
 enum-known-c-2 c = search needs
 
+met-on-requires : tie.Need-met-on-requires
+met-on-requires c κs =
+    let m = c .before .before .before .before .before .before .before .before in
+    let w = m .before .before .before .before .before .before in
+    let f = w .before .before .before .before .before .before .before .before in
+    let a = f .before .before .before .before .before .args in
+    legible (a .self) (a .goal) (a .instants .now) _ (a .octets .now) _ _ (f .frame-formed .ensures) (w .travel .result) (w .travel .ensures) _ _ (m .c2 .given .1)
+
+counted-requires : tie.Need-counted-requires
+counted-requires c κs = search needs
+
+marked-requires : tie.Need-marked-requires
+marked-requires c κs = search needs
+
+forgotten-requires : tie.Need-forgotten-requires
+forgotten-requires c κs = search needs
+
 moved-requires : tie.Need-moved-requires
-moved-requires c κs =
-    let a = c .before .before .before .before .before .before .before .before .before .before .before .before .before .before .before .before .before .before .args in
-    let o = c .before .before .before .before .before .before .before .outcome in
-    course-fine (a .self) (a .goal) (a .instants .now) _ (a .octets .now) _ _ (c .before .before .before .before .before .before .before .before .before .before .before .before .before .before .before .outline-of .ensures) (o .result) (o .ensures) _ _ _ (c .before .c2 .given .1)
+moved-requires c κs = search needs
 
 same-length : tie.Need-same-length
 same-length c = search needs
@@ -31,30 +46,41 @@ same-length-2 c = search needs
 
 returns : tie.Need-returns
 returns c =
-    let a = c .before .before .before .before .before .before .before .before .before .before .before .before .before .before .before .before .before .before .args in
-    let o = c .before .before .before .before .before .before .before .outcome in
-    step-stays (a .self) (a .goal) (a .instants .now) _ (a .octets .now) _ _ (c .before .before .before .before .before .before .before .before .before .before .before .before .before .before .before .outline-of .ensures) (o .result) (o .ensures) _ (c .before .c .given .1)
+    let w = c .before .before .before .before .before .before .before in
+    let f = w .before .before .before .before .before .before .before .before in
+    let a = f .before .before .before .before .before .args in
+    step-stays (a .self) (a .goal) (a .instants .now) _ (a .octets .now) _ _ (f .frame-formed .ensures) (w .travel .result) (w .travel .ensures) _ (c .before .c .given .1)
 
 same-length-3 : tie.Need-same-length-3
-same-length-3 c = search needs
+same-length-3 c = c .before .before .before .before .before .before .before .before .before .before .before .before .before .before .before .before .before .before .before .before .before .travel .kept .1 .1 .1 .1 .1 .1 .1 .1 .0
 
 same-length-4 : tie.Need-same-length-4
-same-length-4 c = search needs
+same-length-4 c = c .before .before .before .before .before .before .before .before .before .before .before .before .before .before .before .before .before .before .before .before .before .travel .kept .1 .1 .1 .1 .1 .1 .1 .1 .1 .0
 
 returns-2 : tie.Need-returns-2
 returns-2 c =
-    let a = c .before .before .before .before .before .before .before .before .before .before .before .before .before .before .before .before .before .before .before .args in
-    let o = c .before .before .before .before .before .before .before .before .outcome in
-    step-goes (a .self) (a .goal) (a .instants .now) _ (a .octets .now) _ _ (c .before .before .before .before .before .before .before .before .before .before .before .before .before .before .before .before .outline-of .ensures) (o .result) (o .ensures) _ _ _ (c .before .before .c2 .given .1) (c .moved .result) (c .moved .ensures)
+    let k = c .before .before .before in
+    let h = k .before .before .before in
+    let m = h .before .before .before .before .before .before .before .before .before in
+    let w = m .before .before .before .before .before .before in
+    let f = w .before .before .before .before .before .before .before .before in
+    let a = f .before .before .before .before .before .args in
+    step-goes (a .self) (a .goal) (a .instants .now) _ (a .octets .now) _ _ (f .frame-formed .ensures) (w .travel .result) (w .travel .ensures) _ _ (m .c2 .given .1)
+    (h .met-on .result) (h .met-on .ensures) (k .counted .result) (k .counted .ensures) (c .before .before .marked .result) (c .before .before .marked .ensures)
+    (c .before .forgotten .result) (c .before .forgotten .ensures) (c .moved .result) (c .moved .ensures)
 
 pub step-spec : {M : Type 1} → statement M
 step-spec =
     tie.close
     (tie.spec
-    outline-of-requires
-    outcome-requires
+    frame-formed-requires
+    travel-requires
     enum-known-c
     enum-known-c-2
+    met-on-requires
+    counted-requires
+    marked-requires
+    forgotten-requires
     moved-requires
     same-length
     same-length-2

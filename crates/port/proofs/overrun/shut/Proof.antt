@@ -1,8 +1,7 @@
--- `port::overrun::shut` meets its contract: its tests are those of the definition, by the frame's mark.
+-- `port::overrun::shut` meets its contract: its tests are those of the definition (`shut-is`).
 -- Assumes nothing.
-use mathlib.Core.Bool.{not, _&&_}
-use mathlib.Core.Path.{ap, _∙_}
 use borrow.Author.Needs.{needs}
+use mathlib.Core.Path.{_∙_}
 use Rattle.port.proofs.Overruns.{shut-is}
 use Rattle.port.proofs.overrun.shut.Statement.{statement}
 use Rattle.port.proofs.overrun.shut.Tie as tie
@@ -12,9 +11,7 @@ gate-requires c κs = search needs
 
 returns : tie.Need-returns
 returns c =
-    let a = c .before .before .before .args in
-    let f = a .f in
-    ap (λ b. f .present && (not (f .counted) && not b)) (c .before .before .gate .ensures) ∙ shut-is f (a .octet)
+    rw (c .before .before .before .gate .ensures) (shut-is _ _ _)
 
 pub shut-spec : {M : Type 1} → statement M
 shut-spec = tie.close (tie.spec gate-requires returns)

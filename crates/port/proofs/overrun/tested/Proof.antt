@@ -1,25 +1,16 @@
--- `port::overrun::tested` meets its contract: the octet shown at the clock decides the mark.
+-- `port::overrun::tested` meets its contract: nothing is sent, or the frame is looked at with the octet shown at the clock.
 -- Assumes nothing.
-use mathlib.Core.Path.{ap, _∙_}
-use native.Mathlib.Omega.{arith}
 use borrow.Author.Needs.{needs}
-use Rattle.rule.specs.Port as model
-use Rattle.port.specs.Coding.{decode, encode}
-use Rattle.port.specs.Updates.{withMark}
-use Rattle.port.proofs.Lean.{fine-outlined, shown-outlined}
-use Rattle.port.proofs.Spans.{clock-fine}
+use Rattle.port.proofs.Overruns.{tested-none, tested-is}
 use Rattle.port.proofs.overrun.tested.Statement.{statement}
 use Rattle.port.proofs.overrun.tested.Tie as tie
 
-outline-of-requires : tie.Need-outline-of-requires
-outline-of-requires c κs = search needs
+returns : tie.Need-returns
+returns c =
+    let s = c .before .before .before in tested-none (s .args .t1) (s .pre) (c .if1 .taken)
 
 shown-at-requires : tie.Need-shown-at-requires
-shown-at-requires c κs =
-    let t = c .before .before .before .before .before in
-    let s = t .before .before in
-    let e = t .outline-of .ensures in
-    (fine-outlined (s .args .t1) _ e (s .pre), (rw e (omega arith), clock-fine (s .args .t1) (s .pre)))
+shown-at-requires c κs = search needs
 
 shut-requires : tie.Need-shut-requires
 shut-requires c κs = search needs
@@ -27,22 +18,18 @@ shut-requires c κs = search needs
 marked-requires : tie.Need-marked-requires
 marked-requires c κs = search needs
 
-returns : tie.Need-returns
-unfolding decode model.shownNow
-returns c =
-    let t = c .before .before .before .before .before .before .before .before in
-    let p = t .before .before .args .t1 in
-    c .marked .ensures
-    ∙ ap (λ b. encode (withMark b (decode p)))
-    (c .before .shut .ensures
-    ∙ ap (λ o. model.overran o (decode p .frame)) (c .before .before .shown-at .ensures ∙ ap (λ s. s (p .clock)) (shown-outlined p _ (t .outline-of .ensures))))
+counted-requires : tie.Need-counted-requires
+counted-requires c κs = search needs
+
+returns-2 : tie.Need-returns-2
+returns-2 c =
+    let m = c .before in
+    let u = m .before .before in
+    let o = u .before in
+    let s = o .before .before .before .before .before .before .before .before .before .before in
+    tested-is (s .args .t1) (s .pre) (o .shown-at .result) (o .shown-at .ensures) (u .shut .result) (u .shut .ensures) (m .marked .result) (m .marked .ensures) (c .counted .result) (c .counted .ensures)
 
 pub tested-spec : {M : Type 1} → statement M
 tested-spec =
     tie.close
-    (tie.spec
-    outline-of-requires
-    shown-at-requires
-    shut-requires
-    marked-requires
-    returns)
+    (tie.spec returns shown-at-requires shut-requires marked-requires counted-requires returns-2)

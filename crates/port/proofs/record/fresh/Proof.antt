@@ -1,4 +1,4 @@
--- `port::record::fresh` meets its contract: field by field, it is the encoding of a new port.
+-- `port::record::fresh` meets its contract: no frame, a new timetable, zero counters.
 -- Assumes nothing.
 use borrow.Author.Needs.{needs}
 use Rattle.rule.specs.Port.{newPort}
@@ -9,15 +9,13 @@ use Rattle.port.proofs.record.fresh.Tie as tie
 no-frame-requires : tie.Need-no-frame-requires
 no-frame-requires c κs = search needs
 
-no-config-requires : tie.Need-no-config-requires
-no-config-requires c κs = search needs
-
-no-waiting-requires : tie.Need-no-waiting-requires
-no-waiting-requires c κs = search needs
+fresh-requires : tie.Need-fresh-requires
+fresh-requires c κs = search needs
 
 returns : tie.Need-returns
 unfolding encode newPort
-returns c = cc
+returns c =
+    rw (c .before .no-frame .ensures, c .fresh .ensures)
 
 pub fresh-spec : {M : Type 1} → statement M
-fresh-spec = tie.close (tie.spec no-frame-requires no-config-requires no-waiting-requires returns)
+fresh-spec = tie.close (tie.spec no-frame-requires fresh-requires returns)

@@ -1,18 +1,20 @@
--- `port::record::well_formed` meets its contract: the counters are free.
+-- `port::record::well_formed` meets its contract: the timetable's check and the frame's.
 -- Assumes nothing.
 use borrow.Author.Needs.{needs}
-use Rattle.port.proofs.Lean.{checked-outlined}
+use Rattle.port.proofs.Coding.{checked}
 use Rattle.port.proofs.record.well_formed.Statement.{statement}
 use Rattle.port.proofs.record.well_formed.Tie as tie
-
-outline-of-requires : tie.Need-outline-of-requires
-outline-of-requires c κs = search needs
 
 formed-requires : tie.Need-formed-requires
 formed-requires c κs = search needs
 
+frame-formed-requires : tie.Need-frame-formed-requires
+frame-formed-requires c κs = search needs
+
 returns : tie.Need-returns
-returns c = let t = c .before .before .before .before .before .before in checked-outlined (t .before .args .t1) _ (t .outline-of .ensures) _ (c .formed .ensures)
+returns c =
+    let t = c .before in
+    checked (t .before .before .before .before .before .before .before .before .args .t1) _ _ (t .formed .ensures) (c .frame-formed .ensures)
 
 pub well-formed-spec : {M : Type 1} → statement M
-well-formed-spec = tie.close (tie.spec outline-of-requires formed-requires returns)
+well-formed-spec = tie.close (tie.spec formed-requires frame-formed-requires returns)

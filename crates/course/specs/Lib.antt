@@ -1,0 +1,4 @@
+pub mod Travel
+pub mod Journey
+pub mod Stretch
+pub mod Period

@@ -1,0 +1,6 @@
+pub mod Octets
+pub mod Classes
+pub mod Closing
+pub mod Frames
+pub mod Decisions
+pub mod Unique

@@ -1,0 +1,4 @@
+pub mod Frame
+pub mod Ahead
+pub mod Choosing
+pub mod Decision

@@ -1,0 +1,6 @@
+pub mod Reading
+pub mod Writing
+pub mod Words
+pub mod RoundTrip
+pub mod Unique
+pub mod Cases

@@ -1,0 +1,103 @@
+-- The record after a submission is that of the timetable after the act (`placed-is`), for a fine record and a submission that is taken. In order: what an
+-- accepted submission brings; the record of a timetable that nothing waits in; any fine record.
+-- Assumes nothing.
+use mathlib.Core.Path.{_≡_, refl, sym, _∙_}
+use mathlib.Core.Bool.{Bool, true, false, cond, _&&_}
+use mathlib.Core.List.{[]}
+use mathlib.Core.Option.{none}
+use Prim.Native.Nat.{ℕ, _+_, _%_, _≤_, _<_}
+use native.Mathlib.Nat.{mod-eq-of-lt}
+use native.Mathlib.Omega.{arith}
+use lib.Dec.{leb}
+use lib.ListN.{length}
+use borrow.Author.Tests.{leb-true}
+use Rattle.rule.specs.Limits.{largestInstant, largestCycle}
+use Rattle.rule.specs.Cycle.{Config, cycleOf}
+use Rattle.rule.specs.Timetable as model
+use Rattle.rule.specs.Acts.{Submission, submit, configOf, errorsAfter, submitted, performGates}
+use Rattle.rule.specs.Orders.{lengthOffered, acceptsGates}
+use Rattle.rule.proofs.ClosedForms.{change-near}
+use Rattle.rule.proofs.Orders.{both, absent, PassedSubmit, submit-passed}
+use Rattle.rule.proofs.Sound.{cycle-range}
+use Rattle.gatelist.specs.declared.GateList.{GateList}
+use Rattle.gatelist.specs.Coding.{entryOf, listOf, encodeList, Places}
+use Rattle.gatelist.proofs.Coding.{length-from, cleaned-encoded}
+use Rattle.timetable.specs.declared.Timetable.{Timetable}
+use Rattle.timetable.specs.Record.{isMarked}
+use Rattle.timetable.specs.Coding.{oldConfig, decode, encode, Fine, changeBy}
+use Rattle.timetable.proofs.Beginnings.{change-by}
+use Rattle.timetable.proofs.Coding.{mark-there}
+use Rattle.timetable.proofs.Records.{clock-fine}
+use Rattle.submission.specs.Judgement.{submissionOf}
+use Rattle.submission.specs.Placement.{errorsFor, operatingBy, waitingBy, placedBy, placedTable}
+
+-- the record of a timetable that nothing waits in
+
+module _ (x : Submission) (m : model.Timetable) (free : m .waiting ≡ none) where
+  abbrev f : Config
+  f = configOf (m .clock) x
+
+  abbrev n : ℕ
+  n = errorsAfter (m .clock) x (m .operating) (m .errors)
+
+  placed-now : leb (f .start) (m .clock) ≡ true → operatingBy (encodeList (f .list)) (f .cycle) (f .extension) (f .start) n (encode m) ≡ encode (submitted x m)
+  unfolding encode submitted encodeList
+  placed-now h = rw (h, free)
+
+  placed-later : leb (f .start) (m .clock) ≡ false → waitingBy (encodeList (f .list)) (f .cycle) (f .extension) (f .start) n (encode m) ≡ encode (submitted x m)
+  unfolding encode submitted encodeList
+  placed-later h = rw h
+
+  placed-model : placedBy (encodeList (f .list)) (f .cycle) (f .extension) (f .start) n (encode m) ≡ encode (submitted x m)
+  unfolding encode
+  placed-model = go (leb (f .start) (m .clock)) refl
+    where
+      go : (b : Bool) → leb (f .start) (m .clock) ≡ b
+          → cond b (operatingBy (encodeList (f .list)) (f .cycle) (f .extension) (f .start) n (encode m)) (waitingBy (encodeList (f .list)) (f .cycle) (f .extension) (f .start) n (encode m))
+          ≡ encode (submitted x m)
+      go true h = placed-now h
+      go false h = placed-later h
+
+-- any fine record
+
+module _ (g : Timetable) (k : Fine g) (list : GateList) (u : Places list) (numerator denominator extension base : ℕ)
+    (e : acceptsGates (submit (submissionOf (listOf list) numerator denominator extension base)) (decode g) ≡ true) where
+  abbrev x : Submission
+  x = submissionOf (listOf list) numerator denominator extension base
+
+  passed : PassedSubmit x (decode g)
+  passed = submit-passed x (decode g) e
+
+  few : list .len ≤ 128
+  unfolding lengthOffered passed
+  few =
+      let l = both (leb 1 (length (listOf list))) (leb (length (listOf list)) 128) (passed .entries) in
+      omega (arith, length-from (entryOf (list .octets) (list .intervals)) 0 (list .len), leb-true (length (listOf list)) 128 (l .1))
+
+  abbrev c : ℕ
+  c = cycleOf numerator denominator
+
+  abbrev a : ℕ
+  a = g .times .clock
+
+  -- the change instant fits 64 bits
+  change-fits : changeBy a base c % 18446744073709551616 ≡ changeBy a base c
+  unfolding passed
+  change-fits =
+      let r = cycle-range numerator denominator (passed .cycle) in
+      let z = change-near (record { start = base; cycle = c; extension = 0; list = [] }) base a largestInstant largestCycle (r .0) (r .1) (passed .base) (clock-fine g k) in
+      mod-eq-of-lt (omega arith)
+
+  start-is : changeBy a base c % 18446744073709551616 ≡ configOf (decode g .clock) x .start
+  unfolding configOf decode
+  start-is = change-fits ∙ sym (change-by a base c (record { start = base; cycle = c; extension = extension; list = listOf list }) refl)
+
+  errors-is : errorsFor base (g .times) ≡ errorsAfter (decode g .clock) x (decode g .operating) (decode g .errors)
+  unfolding errorsFor errorsAfter decode
+  errors-is = sym (rw (mark-there (isMarked (g .times .operates)) (oldConfig (g .times) (listOf (record { octets = g .octets; intervals = g .intervals; len = g .times .len })))))
+
+  pub placed-is : placedTable list numerator denominator extension base g ≡ encode (performGates (submit x) (decode g))
+  unfolding placedTable configOf passed
+  placed-is =
+      (λ i. placedBy (cleaned-encoded list u few i) c extension (start-is i) (errors-is i) (sym (k .whole) i))
+      ∙ placed-model x (decode g) (absent (decode g .waiting) (passed .none-waits))

@@ -1,0 +1,151 @@
+// A submission to a timetable: whether it is taken, and the record after it. Nothing here looks at 14: the caller says whether its record is well formed.
+ghost use mathlib.Core.Path.{_≡_};
+ghost use Rattle.rule.specs.Cycle.{cycleOf, cycleOffered};
+ghost use Rattle.rule.specs.Orders.{lengthOffered};
+ghost use Rattle.submission.specs.Judgement.{Judges};
+ghost use Rattle.submission.specs.Placement.{errorsFor, placedBy, placedTable};
+use gatelist::GateList;
+use rule::Answer;
+use rule::Refusal;
+use rule::first;
+use timetable::Times;
+use timetable::Timetable;
+
+// The largest instant, in nanoseconds, and the longest cycle.
+const LARGEST_INSTANT: u64 = 9_000_000_000_000_000_000;
+
+const LARGEST_CYCLE: u64 = 1_000_000_000;
+
+// The cycle of so many seconds, in nanoseconds; 0 for a denominator of 0.
+fn cycle_of(numerator: u32, denominator: u32) -> u64
+    ensures { λ r. ⌜ r ≡ cycleOf numerator denominator ⌝ }
+{
+    if denominator == 0 {
+        return 0;
+    }
+    let n = gatelist::wide(numerator);
+    let d = gatelist::wide(denominator);
+    n * 1_000_000_000 / d
+}
+
+// The cycle is a whole number of nanoseconds, in range.
+fn cycle_offered(numerator: u32, denominator: u32) -> bool
+    ensures { λ r. ⌜ r ≡ cycleOffered numerator denominator ⌝ }
+{
+    if denominator == 0 {
+        return false;
+    }
+    let n = gatelist::wide(numerator);
+    let d = gatelist::wide(denominator);
+    let c = n * 1_000_000_000 / d;
+    (n * 1_000_000_000 % d == 0) & ((1 <= c) & (c <= LARGEST_CYCLE))
+}
+
+fn length_offered(len: usize) -> bool
+    ensures { λ r. ⌜ r ≡ lengthOffered len ⌝ }
+{
+    (1 <= len) & (len <= GateList::MAX)
+}
+
+// The order of Submit, 14, 6, 7, 8, 9, 5, 4, for a list whose intervals stand in a lent array.
+pub fn judged(
+    x: Times,
+    formed: bool,
+    intervals: &[u32; 128],
+    len: usize,
+    numerator: u32,
+    denominator: u32,
+    base: u64,
+) -> Answer
+    ensures { λ r. ⌜ Judges x formed (now (intervals .entry)) len numerator denominator base r ⌝ }
+{
+    let cycle = cycle_offered(numerator, denominator);
+    let length = length_offered(len);
+    let zero = gatelist::has_zero(intervals, len);
+    let off = x.on != 1;
+    let waits = x.waits == 1;
+    let last = first(zero, Refusal::ZeroInterval, Answer::Done);
+    let listed = first(!length, Refusal::ListLength, last);
+    let based = first(LARGEST_INSTANT < base, Refusal::AboveLargest, listed);
+    let cycled = first(!cycle, Refusal::CycleTime, based);
+    let waiting = first(waits, Refusal::ChangeWaits, cycled);
+    let switched = first(off, Refusal::SwitchedOff, waiting);
+    first(!formed, Refusal::MalformedPort, switched)
+}
+
+// ConfigChangeError, one more if the base time is past and a configuration operates.
+fn errors_for(x: Times, base: u64) -> u64
+    ensures { λ r. ⌜ r ≡ errorsFor base x ⌝ }
+{
+    if (base < x.clock) & (x.operates == 1) {
+        return std::num::wrapping_add_u64(x.errors, 1);
+    }
+    x.errors
+}
+
+// The record with a list, whose unused places are 0, that operates from an instant, or waits for it.
+fn placed_by(
+    g: Timetable,
+    list: GateList,
+    cycle: u64,
+    extension: u64,
+    start: u64,
+    errors: u64,
+) -> Timetable
+    ensures { λ r. ⌜ r ≡ placedBy list cycle extension start errors g ⌝ }
+{
+    let x = g.times;
+    let mut q = g;
+    let octets = list.octets;
+    let intervals = list.intervals;
+    let clock = x.clock;
+    if start <= clock {
+        let y = Times {
+            operates: 1,
+            len: list.len,
+            cycle,
+            extension,
+            start,
+            errors,
+            ..x
+        };
+        q.times = y;
+        q.octets = octets;
+        q.intervals = intervals;
+        return q;
+    }
+    let y = Times {
+        waits: 1,
+        newlen: list.len,
+        newcycle: cycle,
+        newextension: extension,
+        change: start,
+        since: clock,
+        errors,
+        ..x
+    };
+    q.times = y;
+    q.newoctets = octets;
+    q.newintervals = intervals;
+    q
+}
+
+// The record after a submission that is taken.
+pub fn placed(
+    g: Timetable,
+    list: GateList,
+    numerator: u32,
+    denominator: u32,
+    extension: u32,
+    base: u64,
+) -> Timetable
+    ensures { λ r. ⌜ r ≡ placedTable list numerator denominator extension base g ⌝ }
+{
+    let x = g.times;
+    let cycle = cycle_of(numerator, denominator);
+    let start = timetable::change_instant(x.clock, base, cycle);
+    let clean = list.cleaned();
+    let e = gatelist::wide(extension);
+    let errors = errors_for(x, base);
+    placed_by(g, clean, cycle, e, start, errors)
+}

@@ -41,10 +41,11 @@ cycleNo f t = (t - f .start) / f .cycle
 unfoldable pub firstNo : Config → ℕ → ℕ
 firstNo f x = cond (leb x (f .start)) 0 (suc (cycleNo f (x - 1)))
 
--- the change instant of a submission at a: the base time if that is a or later, else the first of base + c, base + 2c and so on that is
+-- a configuration whose cycles start at i
 abbrev pub startingAt : ℕ → Config → Config
 startingAt i f = record { start = i; cycle = f .cycle; extension = f .extension; list = f .list }
 
+-- the change instant of a submission at a: the base time if that is a or later, else the first of base + c, base + 2c and so on that is
 unfoldable pub changeInstant : Config → ℕ → ℕ → ℕ
 changeInstant f base a = startNo (startingAt base f) (firstNo (startingAt base f) a)
 

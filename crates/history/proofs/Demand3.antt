@@ -1,8 +1,8 @@
 -- Demand 3 over the public calls: a new port, any calls, and anything that their contracts allow (`demand-3`). Two series of calls with the same accepted
--- acts at the same instants and the same end have the same changes and the same record (`same-outcome`); with the same acts tried at the same
--- instants, the same are accepted (`same-tries`).
+-- acts at the same instants and the same end have the same changes and the same record (`same-outcome`). With the same acts tried at the same instants, and
+-- besides them any refused ones, looks and steps, the same are accepted (`same-tries`), and the outcome is the same (`refused-besides`).
 -- Assumes nothing.
-use mathlib.Core.Path.{_≡_, ap, sym, _∙_, subst⁻¹}
+use mathlib.Core.Path.{_≡_, ap, sym, _∙_, subst, subst⁻¹}
 use mathlib.Core.Bool.{cond}
 use mathlib.Core.List.{List, [], _∷_, _++_, reverse}
 use mathlib.Core.Option.{none}
@@ -18,7 +18,7 @@ use Rattle.rule.specs.Port.{newPort}
 use Rattle.rule.specs.Acts as rule
 use Rattle.rule.specs.Orders.{lookOrder, newOrder}
 use Rattle.rule.specs.Machine as machine
-use Rattle.rule.specs.Machine.{Outcome, ticks, elapsed, replay}
+use Rattle.rule.specs.Machine.{Outcome, ticks, elapsed, replay, Try, Besides}
 use Rattle.rule.specs.Machines.{machine}
 use Rattle.rule.specs.History.{ruleChanges}
 use Rattle.rule.specs.Frames.{gateActs, octetOf}
@@ -40,12 +40,12 @@ use Rattle.port.specs.Acts.{lookDeclines, Looks, Makes}
 use Rattle.port.specs.Step.{Steps}
 use Rattle.port.proofs.Coding.{decode-encode, formed, clock-encode}
 use Rattle.port.proofs.Numbers.{looked-told}
-use Rattle.history.specs.Calls.{Call, run, tried}
-use Rattle.history.specs.Outcomes.{Event, callsOf, Kept, outcome}
+use Rattle.history.specs.Calls.{Call, run}
+use Rattle.history.specs.Outcomes.{Event, callsOf, Kept, outcome, tries}
 use Rattle.history.specs.Demand.{Idle, Demand}
 use Rattle.history.proofs.Modelled.{afterStep-is}
-use Rattle.history.proofs.Runs.{machineCalls, recorded, run-is, tried-is, sound-run}
-use Rattle.history.proofs.Given.{outcome-is}
+use Rattle.history.proofs.Runs.{machineCalls, recorded, run-is, tries-is, sound-run}
+use Rattle.history.proofs.Given.{outcome-is, triesOf, tries-are}
 use Rattle.history.proofs.Idle.{Whole, whole-encode, unwritten, idle-outcome, idle-between}
 
 -- what a look and a step show of a sound port that shows f from its clock on
@@ -148,18 +148,27 @@ module _ (t₀ s₀ : ℕ) (h : t₀ ≤ largestInstant) (r : Acted) (k : Makes 
       → outcome (r .port) es ≡ outcome (r .port) fs
   same-outcome = demand-same (demand-3 t₀ s₀ h r k es l) (demand-3 t₀ s₀ h r k fs m)
 
-  -- the same acts tried at the same instants: the same are accepted
+  -- the same acts tried at the same instants, and besides them any refused ones, looks and steps, with any rooms: the same are accepted; and if the end
+  -- is the same too, so are the record, octets and counts in it, and the changes joined end to end
   acts-are : (gs : List Event) → Kept (r .port) gs
       → outcome (r .port) gs .acts ≡ machine.run machine (machineCalls (callsOf gs)) (newPort t₀ s₀) .acts
   acts-are gs n =
       ap (λ (o : Outcome Port ℕ rule.Act). o .acts)
       (demand-3 t₀ s₀ h r k gs n .given ∙ run-is (callsOf gs) (newPort t₀ s₀) (sound-new t₀ s₀ h))
 
-  tries-are : (cs : List Call) → tried cs (r .port) ≡ machine.tried machine (machineCalls cs) (newPort t₀ s₀)
-  tries-are cs = ap (tried cs) (new-is t₀ s₀ h r k) ∙ tried-is cs (newPort t₀ s₀) (sound-new t₀ s₀ h)
+  tries-as : (gs : List Event) → Kept (r .port) gs → tries (r .port) gs ≡ machine.tries machine (machineCalls (callsOf gs)) (newPort t₀ s₀)
+  tries-as gs n =
+      tries-are (r .port) gs n ∙ ap (triesOf (callsOf gs)) (new-is t₀ s₀ h r k) ∙ tries-is (callsOf gs) (newPort t₀ s₀) (sound-new t₀ s₀ h)
 
-  pub same-tries : tried (callsOf es) (r .port) ≡ tried (callsOf fs) (r .port) → outcome (r .port) es .acts ≡ outcome (r .port) fs .acts
-  same-tries e =
-      acts-are es l
-      ∙ port.same-tries t₀ s₀ (machineCalls (callsOf es)) (machineCalls (callsOf fs)) (sym (tries-are (callsOf es)) ∙ e ∙ tries-are (callsOf fs))
-      ∙ sym (acts-are fs m)
+  besides-as : Besides (tries (r .port) es) (tries (r .port) fs)
+      → Besides (machine.tries machine (machineCalls (callsOf es)) (newPort t₀ s₀)) (machine.tries machine (machineCalls (callsOf fs)) (newPort t₀ s₀))
+  besides-as b = subst (λ (x : List (Try rule.Act) × List (Try rule.Act)). Besides (x .0) (x .1)) (λ i. (tries-as es l i, tries-as fs m i)) b
+
+  pub same-tries : Besides (tries (r .port) es) (tries (r .port) fs) → outcome (r .port) es .acts ≡ outcome (r .port) fs .acts
+  same-tries b =
+      acts-are es l ∙ port.same-tries t₀ s₀ (machineCalls (callsOf es)) (machineCalls (callsOf fs)) (besides-as b) ∙ sym (acts-are fs m)
+
+  pub refused-besides : Besides (tries (r .port) es) (tries (r .port) fs)
+      → outcome (r .port) es .port .gates .times .clock ≡ outcome (r .port) fs .port .gates .times .clock
+      → outcome (r .port) es ≡ outcome (r .port) fs
+  refused-besides b e = same-outcome (same-tries b) e

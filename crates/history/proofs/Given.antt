@@ -7,13 +7,16 @@ use mathlib.Core.Bool.{cond}
 use mathlib.Core.List.{List, [], _∷_, _++_, map}
 use mathlib.Core.Option.{Option, none, some}
 use Prim.Native.Nat.{ℕ}
+use lib.Dec.{eqb}
 use lib.ListN.{length, take, drop, length-map}
+use borrow.Author.Tests.{ne-eqb}
 use Rattle.rule.specs.declared.Refusal.{Refusal}
-use Rattle.rule.specs.Refusals.{accepted, answerOf}
+use Rattle.rule.specs.Refusals.{numberOf, accepted, answerOf}
 use Rattle.rule.specs.Timetable.{shown}
 use Rattle.rule.specs.Port.{Frame}
 use Rattle.rule.specs.Acts as rule
-use Rattle.rule.specs.Machine.{Outcome, log}
+use Rattle.rule.specs.Machine.{Outcome, Try, log}
+use Rattle.rule.proofs.Refusals.{number-some}
 use Rattle.frames.specs.Decision.{choiceOf}
 use Rattle.frames.proofs.Unique.{choice-told}
 use Rattle.port.specs.declared.Port.{Port}
@@ -23,8 +26,10 @@ use Rattle.course.specs.Travel.{into, instantsOf, octetsOf}
 use Rattle.port.specs.Acts.{declines, after, lookDeclines}
 use Rattle.port.specs.Step.{stepDeclines, passes, reported, afterStep}
 use Rattle.port.proofs.Numbers.{number-of, answer-told, lookedOf, looked-number, looked-octet, steppedOf, stepped-number, choice-number}
-use Rattle.history.specs.Calls.{Call, act, transmit, step, look, meant, room, leaves, reports, asked, performed, run}
-use Rattle.history.specs.Outcomes.{Handed, Allowed, StepOutcome, next, paired, written, ifDone, ifChosen, done, Event, callsOf, Kept, outcome}
+use Rattle.driver.specs.declared.Answer as driver
+use Rattle.driver.specs.Lent.{answerFor, answerTo}
+use Rattle.history.specs.Calls.{Call, act, lend, step, look, room, leaves, reports, asked, attempted, performed, run}
+use Rattle.history.specs.Outcomes.{HandedBy, Handed, AllowedBy, Allowed, StepOutcome, LentOutcome, portBy, next, paired, written, isDone, isDecided, takenBy, taken, done, Event, callsOf, Kept, outcome, tries}
 
 -- what a step wrote can be read back
 
@@ -73,42 +78,83 @@ step-written p goal instants octets r k =
 
 -- each call
 
+port-by : (a : rule.Act) (p : Port) (r : HandedBy a) → AllowedBy a p r → portBy a r ≡ after a p
+port-by (rule.gates a) p r k = k .port
+port-by (rule.transmit heads speed) p r k = k .port
+
 pub next-is : (c : Call) (p : Port) (r : Handed c) → Allowed c p r → next c p r ≡ leaves c p
 unfolding leaves
-next-is (act a) p r k = k .port
-next-is (transmit heads speed) p r k = k .port
+next-is (act a) p r k = port-by a p r k
+next-is (lend heads speed) p r k = k .port
 next-is (step goal instants octets) p r k = k .port
 next-is (look t) p r k = refl
 
 pub written-is : (c : Call) (p : Port) (r : Handed c) → Allowed c p r → written c r ≡ reports c p
 unfolding reports
 written-is (act a) p r k = refl
-written-is (transmit heads speed) p r k = refl
+written-is (lend heads speed) p r k = refl
 written-is (step goal instants octets) p r k = step-written p goal instants octets r k
 written-is (look t) p r k = refl
 
-done-as : (d : Option Refusal) (x : ℕ × rule.Act) → ifDone (answerOf d) x ≡ cond (accepted d) (x ∷ []) []
-done-as none x = refl
-done-as (some r) x = refl
+done-as : (d : Option Refusal) → isDone (answerOf d) ≡ accepted d
+done-as none = refl
+done-as (some r) = refl
 
-chosen-as : (d : Option Refusal) (f : Option Frame) (x : ℕ × rule.Act) → ifChosen (choiceOf d f) x ≡ cond (accepted d) (x ∷ []) []
-chosen-as none none x = refl
-chosen-as none (some f) x = refl
-chosen-as (some r) f x = refl
+decided-as : (d : Option Refusal) (f : Option Frame) → isDecided (choiceOf d f) ≡ accepted d
+decided-as none none = refl
+decided-as none (some f) = refl
+decided-as (some r) f = refl
 
-pub done-is : (c : Call) (p : Port) (r : Handed c) → Allowed c p r → done c p r ≡ performed (asked c) p
-done-is (act a) p r k =
-    let d : Option Refusal = declines (meant a) p in
-    let e : r .answer ≡ answerOf d = answer-told (r .answer) (answerOf d) (k .number ∙ sym (number-of d)) in
-    ap (λ q. ifDone q (p .gates .times .clock, meant a)) e ∙ done-as d (p .gates .times .clock, meant a)
-done-is (transmit heads speed) p r k =
+-- no refusal has the number 0
+lent-as : (d : Option Refusal) (f : Option Frame) → eqb (answerFor (choiceOf d f) .number) 0 ≡ accepted d
+lent-as none none = refl
+lent-as none (some f) = refl
+lent-as (some r) f = ne-eqb (numberOf r) 0 (number-some r)
+
+taken-by : (a : rule.Act) (p : Port) (r : HandedBy a) → AllowedBy a p r → takenBy a r ≡ accepted (declines a p)
+taken-by (rule.gates a) p r k =
+    let d : Option Refusal = declines (rule.gates a) p in
+    ap isDone (answer-told (r .answer) (answerOf d) (k .number ∙ sym (number-of d))) ∙ done-as d
+taken-by (rule.transmit heads speed) p r k =
     let a : rule.Act = rule.transmit heads speed in
     let d : Option Refusal = declines a p in
     let f : Option Frame = rule.performed a (decode p) .frame in
-    let e : r .answer ≡ choiceOf d f = choice-told (r .answer) (choiceOf d f) (k .number ∙ sym (choice-number d f)) (k .values) in
-    ap (λ q. ifChosen q (p .gates .times .clock, a)) e ∙ chosen-as d f (p .gates .times .clock, a)
+    ap isDecided (choice-told (r .answer) (choiceOf d f) (k .number ∙ sym (choice-number d f)) (k .values)) ∙ decided-as d f
+
+lent-taken : (heads : List ℕ) (speed : ℕ) (p : Port) (r : LentOutcome) → Allowed (lend heads speed) p r
+    → taken (lend heads speed) r ≡ accepted (declines (rule.transmit heads speed) p)
+lent-taken heads speed p r k =
+    let a : rule.Act = rule.transmit heads speed in
+    ap (λ (x : driver.Answer). eqb (x .number) 0) (k .answer) ∙ lent-as (declines a p) (rule.performed a (decode p) .frame)
+
+pub done-is : (c : Call) (p : Port) (r : Handed c) → Allowed c p r → done c p r ≡ performed (asked c) p
+done-is (act a) p r k = ap (λ b. cond b ((p .gates .times .clock, a) ∷ []) []) (taken-by a p r k)
+done-is (lend heads speed) p r k =
+    ap (λ b. cond b ((p .gates .times .clock, rule.transmit heads speed) ∷ []) []) (lent-taken heads speed p r k)
 done-is (step goal instants octets) p r k = refl
 done-is (look t) p r k = refl
+
+-- the act that a call tries, and whether the definitions accept it
+abbrev marked : Option rule.Act → Port → List (Try rule.Act)
+marked none p = []
+marked (some a) p = ((p .gates .times .clock, a), accepted (declines a p)) ∷ []
+
+unfoldable pub triesOf : List Call → Port → List (Try rule.Act)
+triesOf [] p = []
+triesOf (c ∷ cs) p = marked (asked c) p ++ triesOf cs (leaves c p)
+
+marked-is : (c : Call) (p : Port) (r : Handed c) → Allowed c p r → map (λ x. (x, taken c r)) (attempted (asked c) p) ≡ marked (asked c) p
+marked-is (act a) p r k = ap (λ b. ((p .gates .times .clock, a), b) ∷ []) (taken-by a p r k)
+marked-is (lend heads speed) p r k = ap (λ b. ((p .gates .times .clock, rule.transmit heads speed), b) ∷ []) (lent-taken heads speed p r k)
+marked-is (step goal instants octets) p r k = refl
+marked-is (look t) p r k = refl
+
+pub tries-are : (p : Port) (es : List Event) → Kept p es → tries p es ≡ triesOf (callsOf es) p
+unfolding Kept tries triesOf
+tries-are p [] k = refl
+tries-are p (e ∷ es) k =
+    ap₂ (λ l r. l ++ r) (marked-is (e .call) p (e .back) (k .0)) (tries-are (next (e .call) p (e .back)) es (k .1))
+    ∙ ap (λ q. marked (asked (e .call)) p ++ triesOf (callsOf es) q) (next-is (e .call) p (e .back) (k .0))
 
 -- a call and what follows it
 abbrev pub joining : List (ℕ × ℕ) → List (ℕ × rule.Act) → Outcome Port ℕ rule.Act → Outcome Port ℕ rule.Act
@@ -125,11 +171,15 @@ outcome-is p (e ∷ es) k =
 
 -- every call can keep its contract, on any record
 
-pub handed : (c : Call) → Port → Handed c
-handed (act a) p = record { answer = answerOf (declines (meant a) p); port = after (meant a) p }
-handed (transmit heads speed) p =
+handedBy : (a : rule.Act) → Port → HandedBy a
+handedBy (rule.gates a) p = record { answer = answerOf (declines (rule.gates a) p); port = after (rule.gates a) p }
+handedBy (rule.transmit heads speed) p =
     let a : rule.Act = rule.transmit heads speed in
     record { answer = choiceOf (declines a p) (rule.performed a (decode p) .frame); port = after a p }
+
+pub handed : (c : Call) → Port → Handed c
+handed (act a) p = handedBy a p
+handed (lend heads speed) p = record { answer = answerTo heads speed p; port = after (rule.transmit heads speed) p }
 handed (step goal instants octets) p =
     let k : ℕ = passes p goal (room instants octets) in
     record {
@@ -139,12 +189,17 @@ handed (step goal instants octets) p =
     }
 handed (look t) p = lookedOf (lookDeclines t p) (shown (decode p .gates) t)
 
-pub handed-allowed : (c : Call) (p : Port) → Allowed c p (handed c p)
-unfolding handed
-handed-allowed (act a) p = record { number = number-of (declines (meant a) p); port = refl }
-handed-allowed (transmit heads speed) p =
+by-allowed : (a : rule.Act) (p : Port) → AllowedBy a p (handedBy a p)
+unfolding handedBy
+by-allowed (rule.gates a) p = record { number = number-of (declines (rule.gates a) p); port = refl }
+by-allowed (rule.transmit heads speed) p =
     let a : rule.Act = rule.transmit heads speed in
     record { number = choice-number (declines a p) (rule.performed a (decode p) .frame); values = refl; port = refl }
+
+pub handed-allowed : (c : Call) (p : Port) → Allowed c p (handed c p)
+unfolding handed
+handed-allowed (act a) p = by-allowed a p
+handed-allowed (lend heads speed) p = record { answer = refl; port = refl }
 handed-allowed (step goal instants octets) p =
     let n : ℕ = room instants octets in
     record {

@@ -22,7 +22,7 @@ use Rattle.course.specs.Travel.{into, instantsOf, octetsOf}
 use Rattle.port.specs.Acts.{declines, after}
 use Rattle.port.specs.Step.{stepDeclines, passes, reported, afterStep}
 use Rattle.port.proofs.Coding.{decode-encode}
-use Rattle.history.specs.Calls.{Call, act, transmit, step, look, meant, room, leaves, reports, asked, performed, run}
+use Rattle.history.specs.Calls.{Call, act, lend, step, look, room, leaves, reports, asked, performed, run}
 use Rattle.history.specs.Outcomes.{Handed, Allowed, Event, outcome}
 use Rattle.history.specs.Demand.{Idle, Unwritten}
 use Rattle.history.proofs.Given.{none-reported, next-is, written-is, done-is, joining}
@@ -64,28 +64,28 @@ refused-after a p e = rw e
 
 pub leaves-idle : (c : Call) (p : Port) → Whole p → Idle c p → leaves c p ≡ p
 unfolding leaves
-leaves-idle (act a) p w e = refused-after (meant a) p e
-leaves-idle (transmit heads speed) p w e = refused-after (rule.transmit heads speed) p e
+leaves-idle (act a) p w e = refused-after a p e
+leaves-idle (lend heads speed) p w e = refused-after (rule.transmit heads speed) p e
 leaves-idle (step goal instants octets) p w e = ap (afterStep p goal) e ∙ afterStep-none p w goal
 leaves-idle (look t) p w e = refl
 
 pub reports-idle : (c : Call) (p : Port) → Idle c p → reports c p ≡ []
 unfolding reports
 reports-idle (act a) p e = refl
-reports-idle (transmit heads speed) p e = refl
+reports-idle (lend heads speed) p e = refl
 reports-idle (step goal instants octets) p e = ap (reported p) e ∙ none-reported p
 reports-idle (look t) p e = refl
 
 pub performed-idle : (c : Call) (p : Port) → Idle c p → performed (asked c) p ≡ []
 performed-idle (act a) p e = rw e
-performed-idle (transmit heads speed) p e = rw e
+performed-idle (lend heads speed) p e = rw e
 performed-idle (step goal instants octets) p e = refl
 performed-idle (look t) p e = refl
 
 pub unwritten : (c : Call) (p : Port) (r : Handed c) → Allowed c p r → Idle c p → Unwritten c r
 unfolding into
 unwritten (act a) p r k e = tt
-unwritten (transmit heads speed) p r k e = tt
+unwritten (lend heads speed) p r k e = tt
 unwritten (step goal instants octets) p r k e =
     let z : reported p (passes p goal (room instants octets)) ≡ [] = ap (reported p) e ∙ none-reported p in
     (k .instants ∙ ap (λ l. into (instantsOf l) instants) z, k .octets ∙ ap (λ l. into (octetsOf l) octets) z)

@@ -1,5 +1,5 @@
 -- A run on the record of a sound port is the machine's run on that port, with the last record encoded (`run-is`); the port stays sound (`sound-run`); the
--- acts tried are the machine's (`tried-is`). What a program sees of a run is in `Given`.
+-- acts tried are the machine's (`tries-is`). What a program sees of a run is in `Given`.
 -- Assumes nothing.
 use mathlib.Core.Path.{_≡_, refl, ap, _∙_}
 use mathlib.Core.Bool.{Bool, true, false, cond}
@@ -20,14 +20,15 @@ use Rattle.port.specs.declared.Port.{Port}
 use Rattle.port.specs.Coding.{encode}
 use Rattle.port.specs.Acts.{declines, after}
 use Rattle.port.proofs.Coding.{clock-encode}
-use Rattle.history.specs.Calls.{Call, act, transmit, step, look, meant, room, leaves, reports, run, tried}
+use Rattle.history.specs.Calls.{Call, act, lend, step, look, room, leaves, reports, run}
+use Rattle.history.proofs.Given.{triesOf}
 use Rattle.history.proofs.Modelled.{accepted-is, after-is, sound-act, afterStep-is, reported-is, sound-step}
 
 -- the machine's calls: a look is none
 pub machineCalls : List Call → List (machine.Call rule.Act)
 machineCalls [] = []
-machineCalls (act a ∷ cs) = attempt (meant a) ∷ machineCalls cs
-machineCalls (transmit heads speed ∷ cs) = attempt (rule.transmit heads speed) ∷ machineCalls cs
+machineCalls (act a ∷ cs) = attempt a ∷ machineCalls cs
+machineCalls (lend heads speed ∷ cs) = attempt (rule.transmit heads speed) ∷ machineCalls cs
 machineCalls (step goal instants octets ∷ cs) = machine.step goal (room instants octets) ∷ machineCalls cs
 machineCalls (look t ∷ cs) = machineCalls cs
 
@@ -43,8 +44,8 @@ acting a b t r = record { port = r .port; out = r .out; acts = cond b ((t, a) �
 abbrev pub Follows : List Call → Type 0
 Follows cs = (m : model.Port) → Sound m → run cs (encode m) ≡ recorded (machine.run machine (machineCalls cs) m)
 
-abbrev pub TriedAs : List Call → Type 0
-TriedAs cs = (m : model.Port) → Sound m → tried cs (encode m) ≡ machine.tried machine (machineCalls cs) m
+abbrev pub TriesAs : List Call → Type 0
+TriesAs cs = (m : model.Port) → Sound m → triesOf cs (encode m) ≡ machine.tries machine (machineCalls cs) m
 
 act-run : (cs : List Call) → Follows cs → (m : model.Port) → Sound m → (a : rule.Act)
     → acting a (accepted (declines a (encode m))) (encode m .gates .times .clock) (run cs (after a (encode m)))
@@ -78,29 +79,30 @@ step-run cs f m s goal instants octets =
 pub run-is : (cs : List Call) → Follows cs
 unfolding machineCalls run leaves reports machine.run
 run-is [] m s = refl
-run-is (act a ∷ cs) m s = act-run cs (run-is cs) m s (meant a)
-run-is (transmit heads speed ∷ cs) m s = act-run cs (run-is cs) m s (rule.transmit heads speed)
+run-is (act a ∷ cs) m s = act-run cs (run-is cs) m s a
+run-is (lend heads speed ∷ cs) m s = act-run cs (run-is cs) m s (rule.transmit heads speed)
 run-is (step goal instants octets ∷ cs) m s = step-run cs (run-is cs) m s goal instants octets
 run-is (look t ∷ cs) m s = run-is cs m s
 
 -- the acts tried
 
-act-tried : (cs : List Call) → TriedAs cs → (m : model.Port) → Sound m → (a : rule.Act)
-    → (encode m .gates .times .clock, a) ∷ tried cs (after a (encode m)) ≡ machine.tried machine (attempt a ∷ machineCalls cs) m
-unfolding machine.tried
-act-tried cs f m s a =
-    (λ i. (clock-encode m i, a) ∷ tried cs (after-is m s a i))
-    ∙ ap (λ l. (m .gates .clock, a) ∷ l) (f (cond (accepts a m) (perform a m) m) (sound-act m s a))
+act-tries : (cs : List Call) → TriesAs cs → (m : model.Port) → Sound m → (a : rule.Act)
+    → ((encode m .gates .times .clock, a), accepted (declines a (encode m))) ∷ triesOf cs (after a (encode m))
+    ≡ machine.tries machine (attempt a ∷ machineCalls cs) m
+unfolding machine.tries
+act-tries cs f m s a =
+    (λ i. ((clock-encode m i, a), accepted-is m s a i) ∷ triesOf cs (after-is m s a i))
+    ∙ ap (λ l. ((m .gates .clock, a), accepts a m) ∷ l) (f (cond (accepts a m) (perform a m) m) (sound-act m s a))
 
-pub tried-is : (cs : List Call) → TriedAs cs
-unfolding machineCalls tried leaves machine.tried
-tried-is [] m s = refl
-tried-is (act a ∷ cs) m s = act-tried cs (tried-is cs) m s (meant a)
-tried-is (transmit heads speed ∷ cs) m s = act-tried cs (tried-is cs) m s (rule.transmit heads speed)
-tried-is (step goal instants octets ∷ cs) m s =
+pub tries-is : (cs : List Call) → TriesAs cs
+unfolding machineCalls triesOf leaves machine.tries
+tries-is [] m s = refl
+tries-is (act a ∷ cs) m s = act-tries cs (tries-is cs) m s a
+tries-is (lend heads speed ∷ cs) m s = act-tries cs (tries-is cs) m s (rule.transmit heads speed)
+tries-is (step goal instants octets ∷ cs) m s =
     let n : ℕ = room instants octets in
-    ap (tried cs) (afterStep-is m s goal n) ∙ tried-is cs _ (sound-step m s goal n)
-tried-is (look t ∷ cs) m s = tried-is cs m s
+    ap (triesOf cs) (afterStep-is m s goal n) ∙ tries-is cs _ (sound-step m s goal n)
+tries-is (look t ∷ cs) m s = tries-is cs m s
 
 -- the port stays sound
 

@@ -1,6 +1,6 @@
--- Demand 3 over the public calls of crate `port`: a call is any of them with any arguments, and its meaning is the very definition that its contract
--- cites. A run is a list of calls on a record: the record at the end, the changes joined end to end, the accepted acts with their instants. Arguments
--- are numbers and lists of any size; what the types of a program allow is among them.
+-- Demand 3 over the public calls of crates `port` and `driver`: a call is any of them with any arguments, and its meaning is the very definition that its
+-- contract cites. A run is a list of calls on a record: the record at the end, the changes joined end to end, the accepted acts with their instants.
+-- Arguments are numbers and lists of any size; what the types of a program allow is among them.
 -- Assumes nothing.
 use mathlib.Core.Bool.{cond}
 use mathlib.Core.List.{List, [], _∷_, _++_}
@@ -10,28 +10,14 @@ use lib.ListN.{length}
 use Rattle.rule.specs.Refusals.{accepted}
 use Rattle.rule.specs.Acts as rule
 use Rattle.rule.specs.Machine.{Outcome}
-use Rattle.gatelist.specs.declared.GateList.{GateList}
 use Rattle.port.specs.declared.Port.{Port}
-use Rattle.port.specs.Acts.{declines, after, submission}
+use Rattle.port.specs.Acts.{declines, after}
 use Rattle.port.specs.Step.{passes, reported, afterStep}
 
--- the acts that answer done or refused; a list is submitted as its record
-pub data PortAct : Type 0 where
-  on off : PortAct
-  standing : (octet : ℕ) → PortAct
-  submit : (list : GateList) (numerator denominator extension base : ℕ) → PortAct
-
--- the act of document 01 that is meant
-abbrev pub meant : PortAct → rule.Act
-meant on = rule.gates rule.on
-meant off = rule.gates rule.off
-meant (standing octet) = rule.gates (rule.standing octet)
-meant (submit list numerator denominator extension base) = rule.gates (rule.submit (submission list numerator denominator extension base))
-
--- a step is lent two buffers, as they stand
+-- an act on a port by value, or C's transmit on a lent one; a step is lent two buffers, as they stand
 pub data Call : Type 0 where
-  act : PortAct → Call
-  transmit : (heads : List ℕ) (speed : ℕ) → Call
+  act : (a : rule.Act) → Call
+  lend : (heads : List ℕ) (speed : ℕ) → Call
   step : (goal : ℕ) (instants octets : List ℕ) → Call
   look : (t : ℕ) → Call
 
@@ -41,22 +27,22 @@ room instants octets = min (length instants) (length octets)
 
 -- the record after a call, refused or not
 unfoldable pub leaves : Call → Port → Port
-leaves (act a) p = after (meant a) p
-leaves (transmit heads speed) p = after (rule.transmit heads speed) p
+leaves (act a) p = after a p
+leaves (lend heads speed) p = after (rule.transmit heads speed) p
 leaves (step goal instants octets) p = afterStep p goal (passes p goal (room instants octets))
 leaves (look t) p = p
 
 -- the changes that it reports
 unfoldable pub reports : Call → Port → List (ℕ × ℕ)
 reports (act a) p = []
-reports (transmit heads speed) p = []
+reports (lend heads speed) p = []
 reports (step goal instants octets) p = reported p (passes p goal (room instants octets))
 reports (look t) p = []
 
 -- the act that it tries, at the clock's instant; and the same if it is accepted
 abbrev pub asked : Call → Option rule.Act
-asked (act a) = some (meant a)
-asked (transmit heads speed) = some (rule.transmit heads speed)
+asked (act a) = some a
+asked (lend heads speed) = some (rule.transmit heads speed)
 asked (step goal instants octets) = none
 asked (look t) = none
 
@@ -74,8 +60,3 @@ run [] p = record { port = p; out = []; acts = [] }
 run (c ∷ cs) p =
     let r = run cs (leaves c p) in
     record { port = r .port; out = reports c p ++ r .out; acts = performed (asked c) p ++ r .acts }
-
--- the acts that a run tries, each at its instant
-unfoldable pub tried : List Call → Port → List (ℕ × rule.Act)
-tried [] p = []
-tried (c ∷ cs) p = attempted (asked c) p ++ tried cs (leaves c p)

@@ -23,21 +23,21 @@ use Rattle.port.specs.Record.{wellFormed}
 use Rattle.port.specs.Coding.{decode, encode}
 use Rattle.port.specs.Acts.{declines, Looks}
 use Rattle.port.specs.Step.{passes, Steps}
-use Rattle.history.specs.Calls.{Call, act, transmit, step, look, meant, room, run}
+use Rattle.history.specs.Calls.{Call, act, lend, step, look, room, run}
 use Rattle.history.specs.Outcomes.{Handed, Allowed, Event, outcome}
 
 -- a call that changes nothing: a refused act, a look, and a step that lets no instant pass, since it is refused, or its goal is now, or a change comes next
 -- and there is no room (proofs/Idle: `refused-passes`, `now-passes`, `full-passes`)
 abbrev pub Idle : Call → Port → Type 0
-Idle (act a) p = accepted (declines (meant a) p) ≡ false
-Idle (transmit heads speed) p = accepted (declines (rule.transmit heads speed) p) ≡ false
+Idle (act a) p = accepted (declines a p) ≡ false
+Idle (lend heads speed) p = accepted (declines (rule.transmit heads speed) p) ≡ false
 Idle (step goal instants octets) p = passes p goal (room instants octets) ≡ 0
 Idle (look t) p = Unit {0}
 
 -- the buffers are as they were lent
 abbrev pub Unwritten : (c : Call) → Handed c → Type 0
 Unwritten (act a) r = Unit {0}
-Unwritten (transmit heads speed) r = Unit {0}
+Unwritten (lend heads speed) r = Unit {0}
 Unwritten (step goal instants octets) r = (r .instants ≡ instants) × (r .octets ≡ octets)
 Unwritten (look t) r = Unit {0}
 

@@ -1,15 +1,16 @@
 -- However a span is cut into steps, whatever the room of each and whatever is refused: the state and the changes joined end to end are those of the acts
--- alone, each at its instant (`run-port`, `run-out`), and which acts are accepted follows from those tried (`acts-accepted`). Over any machine. In order:
--- ticks and logs add up; the acts' own run does not feel a stop on the way; a series of calls; the acts tried. What one step does with its room is in
--- `Reach`.
+-- alone, each at its instant (`run-port`, `run-out`), and which acts are accepted follows from those tried, whatever refused ones are put in between
+-- (`besides-acts`). Over any machine. In order: ticks and logs add up; the acts' own run does not feel a stop on the way; a series of calls; the acts
+-- tried. What one step does with its room is in `Reach`.
 -- Assumes nothing.
-use mathlib.Core.Path.{_≡_, refl, ap, sym, _∙_, subst}
+use mathlib.Core.Path.{_≡_, refl, ap, sym, _∙_, subst, subst⁻¹}
 use mathlib.Core.Bool.{Bool, true, false, cond}
+use mathlib.Core.Logic.{⊎-elim}
 use mathlib.Core.List.{List, [], _∷_, _++_, append-assoc}
 use Prim.Native.Nat.{ℕ, zero, suc, _+_, _-_, _≤_}
 use native.Mathlib.Nat.{zero-add, suc-add, sub-self}
 use native.Mathlib.Omega.{arith}
-use Rattle.rule.specs.Machine.{Machine, Call, step, attempt, Outcome, ticks, noted, log, elapsed, run, withAct, replay, replayLog, tried, accepting}
+use Rattle.rule.specs.Machine.{Machine, Call, step, attempt, Outcome, ticks, noted, log, elapsed, run, withAct, replay, replayLog, Try, Besides, tries}
 
 -- what holds of both sides of a choice holds of the choice; each side has its own equation
 pub cases : {A : Type 0} (P : A → Type 0) (b : Bool) (x y : A) → (b ≡ true → P x) → (b ≡ false → P y) → P (cond b x y)
@@ -133,48 +134,65 @@ module _ (M : Machine) (L : Lawful M) where
   one-outcome cs ds s p q =
       (run-port cs s ∙ (λ i. replay M (p i) (q i) s) ∙ sym (run-port ds s), run-out cs s ∙ (λ i. replayLog M (p i) (q i) s) ∙ sym (run-out ds s))
 
-  -- which acts are accepted does not hang on the steps either: it follows from the acts tried, each at its instant
-  After : ℕ → List (ℕ × Act) → Type 0
-  After t [] = Unit {0}
-  After t (x ∷ l) = t ≤ x .0
+  -- which acts are accepted does not hang on the steps, nor on refused acts put in between
 
-  after-mono : {t u : ℕ} (l : List (ℕ × Act)) → t ≤ u → After u l → After t l
-  unfolding After
-  after-mono [] h k = tt
-  after-mono (x ∷ l) h k = omega arith
+  -- the state after an act was tried
+  abbrev tried : Act → State → State
+  tried a s = cond (accepts a s) (perform a s) s
 
-  tried-after : (cs : List (Call Act)) (s : State) → After (clock s) (tried M cs s)
-  unfolding After tried
-  tried-after [] s = tt
-  tried-after (step g m ∷ cs) s =
-      let k : ℕ = elapsed M (step g m) s in
-      after-mono (tried M cs (ticks M k s)) (omega (arith, clock-ticks k s)) (tried-after cs (ticks M k s))
-  tried-after (attempt a ∷ cs) s = omega arith
-
-  accepting-ticks : (k : ℕ) (s : State) (l : List (ℕ × Act)) → After (clock s + k) l → accepting M l s ≡ accepting M l (ticks M k s)
-  unfolding After accepting
-  accepting-ticks k s [] h = refl
-  accepting-ticks k s (x ∷ l) h =
-      ap (λ q. cond (accepts (x .1) q) (x ∷ accepting M l (perform (x .1) q)) (accepting M l q)) (ticks-to k (x .0) s h)
-
-  pub acts-accepted : (cs : List (Call Act)) (s : State) → run M cs s .acts ≡ accepting M (tried M cs s) s
-  unfolding run tried accepting
-  acts-accepted [] s = refl
-  acts-accepted (step g m ∷ cs) s =
-      let k : ℕ = elapsed M (step g m) s in
-      let q : State = ticks M k s in
-      acts-accepted cs q ∙ sym (accepting-ticks k s (tried M cs q) (rw (clock-ticks k s) at (tried-after cs q)))
-  acts-accepted (attempt a ∷ cs) s = go (accepts a s) refl (λ q. acts-accepted cs q)
+  -- the same act tried in front of two series that agree from any state on
+  both-try : (cs ds : List (Call Act)) → ((q : State) → Besides (tries M cs q) (tries M ds q) → run M cs q .acts ≡ run M ds q .acts)
+      → (a b : Act) (s u : State) → a ≡ b → s ≡ u → Besides (tries M cs (tried a s)) (tries M ds (tried b u))
+      → run M (attempt a ∷ cs) s .acts ≡ run M (attempt b ∷ ds) u .acts
+  unfolding run
+  both-try cs ds f a b s u c q h =
+      go (accepts a s) (subst⁻¹ (λ (x : Act × State). Besides (tries M cs (tried a s)) (tries M ds (tried (x .0) (x .1)))) (λ t. (c t, q t)) h)
+      ∙ (λ t. run M (attempt (c t) ∷ ds) (q t) .acts)
     where
-      -- at the clock itself no time passes
-      here : (l : List (ℕ × Act)) {b : Bool} → accepts a s ≡ b
-          → accepting M ((clock s, a) ∷ l) s ≡ cond b ((clock s, a) ∷ accepting M l (perform a s)) (accepting M l s)
-      here l e =
-          ap (λ q. cond (accepts a q) ((clock s, a) ∷ accepting M l (perform a q)) (accepting M l q)) (stay s)
-          ∙ ap (λ b. cond b ((clock s, a) ∷ accepting M l (perform a s)) (accepting M l s)) e
-
-      go : (b : Bool) → accepts a s ≡ b → ((q : State) → run M cs q .acts ≡ accepting M (tried M cs q) q)
+      go : (b : Bool) → Besides (tries M cs (cond b (perform a s) s)) (tries M ds (cond b (perform a s) s))
           → cond b (withAct (clock s) a (run M cs (perform a s))) (run M cs s) .acts
-          ≡ accepting M ((clock s, a) ∷ tried M cs (cond b (perform a s) s)) s
-      go true e ih = ap (λ l. (clock s, a) ∷ l) (ih (perform a s)) ∙ sym (here (tried M cs (perform a s)) e)
-      go false e ih = ih s ∙ sym (here (tried M cs s) e)
+          ≡ cond b (withAct (clock s) a (run M ds (perform a s))) (run M ds s) .acts
+      go true k = ap (λ l. (clock s, a) ∷ l) (f (perform a s) k)
+      go false k = f s k
+
+  -- a refused act in front of a series
+  refused-try : (b : Act) (ds : List (Call Act)) (u : State) (xs : List (Try Act)) → accepts b u ≡ false
+      → Besides xs (tries M ds (tried b u))
+      → (Besides xs (tries M ds u)) × (run M (attempt b ∷ ds) u .acts ≡ run M ds u .acts)
+  unfolding run
+  refused-try b ds u xs e h = (subst (λ c. Besides xs (tries M ds (cond c (perform b u) u))) e h, rw e)
+
+  -- two states that time makes of one are the same at the same instant
+  one-state : (z s u : State) (i j : ℕ) → s ≡ ticks M i z → u ≡ ticks M j z → clock s ≡ clock u → s ≡ u
+  one-state z s u i j e f h =
+      let n : i ≡ j = omega (arith, h, ap clock e ∙ clock-ticks i z, ap clock f ∙ clock-ticks j z) in
+      e ∙ ap (λ t. ticks M t z) n ∙ sym f
+
+  besides-from : (cs ds : List (Call Act)) (z s u : State) (i j : ℕ) → s ≡ ticks M i z → u ≡ ticks M j z
+      → Besides (tries M cs s) (tries M ds u) → run M cs s .acts ≡ run M ds u .acts
+  unfolding Besides tries run ticks
+  besides-from [] [] z s u i j e f h = refl
+  besides-from [] (step g m ∷ ds) z s u i j e f h =
+      let k : ℕ = elapsed M (step g m) u in
+      besides-from [] ds z s (ticks M k u) i (j + k) e (ap (ticks M k) f ∙ sym (ticks-add j k z)) h
+  besides-from [] (attempt b ∷ ds) z s u i j e f h =
+      let r = refused-try b ds u [] (h .0) (h .1) in
+      besides-from [] ds z s u i j e f (r .0) ∙ sym (r .1)
+  besides-from (step g m ∷ cs) ds z s u i j e f h =
+      let k : ℕ = elapsed M (step g m) s in
+      besides-from cs ds z (ticks M k s) u (i + k) j (ap (ticks M k) e ∙ sym (ticks-add i k z)) f h
+  besides-from (attempt a ∷ cs) [] z s u i j e f h = absurd h
+  besides-from (attempt a ∷ cs) (step g m ∷ ds) z s u i j e f h =
+      let k : ℕ = elapsed M (step g m) u in
+      besides-from (attempt a ∷ cs) ds z s (ticks M k u) i (j + k) e (ap (ticks M k) f ∙ sym (ticks-add j k z)) h
+  besides-from (attempt a ∷ cs) (attempt b ∷ ds) z s u i j e f h =
+      ⊎-elim
+      (λ k. both-try cs ds (λ v. besides-from cs ds v v v 0 0 refl refl) a b s u (ap (λ (x : ℕ × Act). x .1) (k .0))
+      (one-state z s u i j e f (ap (λ (x : ℕ × Act). x .0) (k .0))) (k .1))
+      (λ k. let r = refused-try b ds u (((clock s, a), accepts a s) ∷ tries M cs (tried a s)) (k .0) (k .1) in
+      besides-from (attempt a ∷ cs) ds z s u i j e f (r .0) ∙ sym (r .1))
+      h
+
+  pub besides-acts : (cs ds : List (Call Act)) (s : State) → Besides (tries M cs s) (tries M ds s) → run M cs s .acts ≡ run M ds s .acts
+  unfolding ticks
+  besides-acts cs ds s = besides-from cs ds s s s 0 0 refl refl

@@ -1,5 +1,5 @@
 -- Demand 3 for a timetable and for a port: any series of calls. What they report and leave is read off the accepted acts and the end instant alone
--- (`timetable-demand`, `demand-3`); two series of calls with the same accepted acts, or the same acts tried, have the same outcome. The octets, the changes
+-- (`timetable-demand`, `demand-3`); two series of calls with the same accepted acts, or the same acts tried and refused ones besides, have the same outcome. The octets, the changes
 -- and the errors of a port are those of its timetable, with the acts on the gates.
 -- Assumes nothing.
 use mathlib.Core.Path.{_≡_, ap, sym, _∙_, subst}
@@ -10,11 +10,11 @@ use lib.ListN.{getD}
 use Rattle.rule.specs.Timetable.{Timetable, shownNow, newTimetable}
 use Rattle.rule.specs.Port.{Port, newPort}
 use Rattle.rule.specs.Acts.{GateAct, Act}
-use Rattle.rule.specs.Machine.{ticks, Call, Outcome, run, replay, replayLog, tried, accepting}
+use Rattle.rule.specs.Machine.{ticks, Call, Outcome, run, replay, replayLog, Besides, tries}
 use Rattle.rule.specs.Machines.{timetableMachine, machine}
 use Rattle.rule.specs.History.{ruleOctet, ruleErrors, ruleChanges}
 use Rattle.rule.specs.Frames.{gateActs, octetOf, ruleOverruns}
-use Rattle.rule.proofs.Cut.{run-port, run-out, one-outcome, acts-accepted}
+use Rattle.rule.proofs.Cut.{run-port, run-out, one-outcome, besides-acts}
 use Rattle.rule.proofs.Laws.{timetable-lawful, lawful}
 use Rattle.rule.proofs.Shown.{now-ticks}
 use Rattle.rule.proofs.Gated.{ticks-gates, gateCalls, gated, run-gates, gates-reverse}
@@ -87,9 +87,7 @@ pub same-outcome : (t₀ s₀ : ℕ) (cs ds : List (Call Act))
     × (run machine cs (newPort t₀ s₀) .out ≡ run machine ds (newPort t₀ s₀) .out)
 same-outcome t₀ s₀ cs ds = one-outcome machine lawful cs ds (newPort t₀ s₀)
 
--- and with the same acts tried at the same instants, accepted or not: the same are accepted
-pub same-tries : (t₀ s₀ : ℕ) (cs ds : List (Call Act))
-    → tried machine cs (newPort t₀ s₀) ≡ tried machine ds (newPort t₀ s₀)
+-- and with the same acts tried at the same instants, and refused ones besides: the same are accepted
+pub same-tries : (t₀ s₀ : ℕ) (cs ds : List (Call Act)) → Besides (tries machine cs (newPort t₀ s₀)) (tries machine ds (newPort t₀ s₀))
     → run machine cs (newPort t₀ s₀) .acts ≡ run machine ds (newPort t₀ s₀) .acts
-same-tries t₀ s₀ cs ds e =
-    acts-accepted machine lawful cs (newPort t₀ s₀) ∙ ap (λ l. accepting machine l (newPort t₀ s₀)) e ∙ sym (acts-accepted machine lawful ds (newPort t₀ s₀))
+same-tries t₀ s₀ cs ds = besides-acts machine lawful cs ds (newPort t₀ s₀)

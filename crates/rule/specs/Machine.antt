@@ -1,7 +1,9 @@
 -- A machine that goes on by one nanosecond at a time, is acted on between, and shows something at every instant. Nothing of gates is in it: cutting a
 -- span into steps, the room of each step and refused calls (document 01, 'Step', and demand 3) are spoken of here, once.
 -- Assumes nothing.
+use mathlib.Core.Path.{_≡_}
 use mathlib.Core.Bool.{Bool, true, false, cond}
+use mathlib.Core.Logic.{_⊎_}
 use mathlib.Core.List.{List, [], _∷_, _++_}
 use Prim.Native.Nat.{ℕ, zero, suc, _-_}
 
@@ -38,6 +40,17 @@ abbrev pub onward : Bool → ℕ → (ℕ → ℕ) → ℕ
 onward true m f = suc (f m)
 onward false zero f = 0
 onward false (suc r) f = suc (f r)
+
+-- an act with its instant, and whether it is accepted
+abbrev pub Try : Type 0 → Type 0
+Try A = (ℕ × A) × Bool
+
+-- the second series has the tries of the first, the same act at the same instant, and besides them only refused ones
+unfoldable pub Besides : {A : Type 0} → List (Try A) → List (Try A) → Type 0
+Besides [] [] = Unit {0}
+Besides (x ∷ xs) [] = ⊥
+Besides [] (y ∷ ys) = (y .1 ≡ false) × Besides [] ys
+Besides (x ∷ xs) (y ∷ ys) = ((x .0 ≡ y .0) × Besides xs ys) ⊎ ((y .1 ≡ false) × Besides (x ∷ xs) ys)
 
 module _ (M : Machine) where
   open Machine M using (State, Out, Act, clock, tick, now, same, accepts, perform, acceptsGoal)
@@ -83,14 +96,8 @@ module _ (M : Machine) where
   replayLog [] e s = log (e - clock s) s
   replayLog (x ∷ l) e s = log (x .0 - clock s) s ++ replayLog l e (perform (x .1) (ticks (x .0 - clock s) s))
 
-  -- the acts that are tried, each at its instant; and those of them that are accepted, whatever steps lie between
-  unfoldable pub tried : List (Call Act) → State → List (ℕ × Act)
-  tried [] s = []
-  tried (step goal room ∷ cs) s = tried cs (ticks (elapsed (step goal room) s) s)
-  tried (attempt a ∷ cs) s = (clock s, a) ∷ tried cs (cond (accepts a s) (perform a s) s)
-
-  unfoldable pub accepting : List (ℕ × Act) → State → List (ℕ × Act)
-  accepting [] s = []
-  accepting (x ∷ l) s =
-      let q : State = ticks (x .0 - clock s) s in
-      cond (accepts (x .1) q) (x ∷ accepting l (perform (x .1) q)) (accepting l q)
+  -- the acts that are tried, each at its instant, with whether it is accepted
+  unfoldable pub tries : List (Call Act) → State → List (Try Act)
+  tries [] s = []
+  tries (step goal room ∷ cs) s = tries cs (ticks (elapsed (step goal room) s) s)
+  tries (attempt a ∷ cs) s = ((clock s, a), accepts a s) ∷ tries cs (cond (accepts a s) (perform a s) s)

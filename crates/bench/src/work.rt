@@ -6,14 +6,6 @@ use port::Port;
 use port::StepAnswer;
 use std::num::wrapping_add_u64;
 
-fn wide(x: u8) -> u64 {
-    x as u64
-}
-
-fn wide32(x: u32) -> u64 {
-    x as u64
-}
-
 // A port that is new at 5,000 with the standing octet FF, on, with a list that operates from 5,000.
 pub fn set_up(list: GateList, numerator: u32, denominator: u32) -> Port {
     let made = Port::new(5000, 0xff);
@@ -26,7 +18,7 @@ pub fn set_up(list: GateList, numerator: u32, denominator: u32) -> Port {
 
 fn octet_of(l: Looked) -> u64 {
     match l {
-        Looked::Octet(o) => wide(o),
+        Looked::Octet(o) => text::wide(o),
         Looked::Refused(r) => rule::number(r) as u64,
     }
 }
@@ -71,7 +63,7 @@ fn tally(a: StepAnswer, instants: &[u64], octets: &[u8]) -> u64 {
             if octets.len() <= last {
                 return 0;
             }
-            let k = wrapping_add_u64(n as u64, wide(octets[last]));
+            let k = wrapping_add_u64(n as u64, text::wide(octets[last]));
             wrapping_add_u64(k, instants[last])
         }
         StepAnswer::Refused(r) => rule::number(r) as u64,
@@ -108,7 +100,7 @@ pub fn transmits(p: Port, head: u64, speed: u64, times: u64) -> u64 {
         let t = q.transmit(heads, speed);
         q = t.port;
         let f = q.frame;
-        sum = wrapping_add_u64(sum, wide(f.class));
+        sum = wrapping_add_u64(sum, text::wide(f.class));
         sum = wrapping_add_u64(sum, f.end);
         q.frame = none;
         i = i + 1;
@@ -135,7 +127,7 @@ pub fn submits(p: Port, list: GateList, times: u64) -> u64 {
 // The octet at a place, counted round and round.
 fn octet_at(octets: &[u8; 128], i: u64) -> u64 {
     let k = (i % 128) as usize;
-    wide(octets[k])
+    text::wide(octets[k])
 }
 
 fn written(w: Written) -> u64 {
@@ -154,7 +146,7 @@ pub fn writes(list: GateList, times: u64) -> u64 {
         let w = octets::write(list, &mut buffer);
         let n = written(w);
         let at = 7 * (i % 128) + 2;
-        sum = wrapping_add_u64(sum, wide(buffer[at as usize]));
+        sum = wrapping_add_u64(sum, text::wide(buffer[at as usize]));
         sum = wrapping_add_u64(sum, n);
         i = i + 1;
     }
@@ -172,7 +164,7 @@ pub fn reads(list: GateList, times: u64) -> u64 {
         let l = r.list;
         let v = l.intervals;
         sum = wrapping_add_u64(sum, octet_at(&l.octets, i));
-        sum = wrapping_add_u64(sum, wide32(v[127]));
+        sum = wrapping_add_u64(sum, gatelist::wide(v[127]));
         i = i + 1;
     }
     sum

@@ -65,16 +65,12 @@ pub fn say_instants(out: &mut [u8], at: usize, xs: &[u64]) -> usize {
     next
 }
 
-fn wide(x: u8) -> u64 {
-    x as u64
-}
-
 // Octets, a space before each.
 pub fn say_octets(out: &mut [u8], at: usize, xs: &[u8]) -> usize {
     let mut next = at;
     let mut i: usize = 0;
     while i < xs.len() {
-        next = text::spaced(out, next, wide(xs[i]));
+        next = text::spaced(out, next, text::wide(xs[i]));
         i = i + 1;
     }
     next

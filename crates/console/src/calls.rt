@@ -22,10 +22,6 @@ use port::StepAnswer;
 use rule::Answer;
 use text::Scan;
 
-fn wide(x: u8) -> u64 {
-    x as u64
-}
-
 // new START STANDING
 fn call_new(s: &[u8], c: Scan, p: Port, out: &mut [u8]) -> Held {
     let start = text::number64(s, c);
@@ -90,7 +86,7 @@ fn say_choice(out: &mut [u8], a: Choice) -> usize {
     match a {
         Choice::Frame(class, start, end) => {
             let at = text::put(out, 0, b"frame");
-            let at = text::spaced(out, at, wide(class));
+            let at = text::spaced(out, at, text::wide(class));
             let at = text::spaced(out, at, start);
             text::spaced(out, at, end)
         }
@@ -192,7 +188,7 @@ fn call_look(s: &[u8], c: Scan, p: Port, out: &mut [u8]) -> Held {
     match l {
         Looked::Octet(o) => {
             let at = text::put(out, 0, b"octet");
-            let at = text::spaced(out, at, wide(o));
+            let at = text::spaced(out, at, text::wide(o));
             answered(p, at)
         }
         Looked::Refused(r) => {

@@ -16,29 +16,6 @@ use octets::Written;
 use port::Port;
 use text::Scan;
 
-// A digit's value; 16 is none.
-fn digit(b: u8) -> u8 {
-    if b < 48 {
-        return 16;
-    }
-    if b < 58 {
-        return b - 48;
-    }
-    if b < 65 {
-        return 16;
-    }
-    if b < 71 {
-        return b - 55;
-    }
-    if b < 97 {
-        return 16;
-    }
-    if b < 103 {
-        return b - 87;
-    }
-    16
-}
-
 // An octet of two digits, if they are good.
 struct Octet {
     value: u8,
@@ -46,8 +23,8 @@ struct Octet {
 }
 
 fn octet_of(high: u8, low: u8) -> Octet {
-    let h = digit(high);
-    let l = digit(low);
+    let h = text::hex_value(high);
+    let l = text::hex_value(low);
     if h < 16 {
         if l < 16 {
             return Octet {

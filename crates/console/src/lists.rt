@@ -8,14 +8,6 @@ pub struct Listed {
     pub scan: Scan,
 }
 
-fn wide(x: u8) -> u64 {
-    x as u64
-}
-
-fn wide32(x: u32) -> u64 {
-    x as u64
-}
-
 // Takes a list record of a given length field.
 pub fn take_list(s: &[u8], c: Scan, len: usize) -> Listed {
     let k = text::number(s, c, 128);
@@ -68,8 +60,8 @@ fn say_place<'a>(
     if 128 <= i {
         return at;
     }
-    let next = text::spaced(out, at, wide(octets[i]));
-    text::spaced(out, next, wide32(intervals[i]))
+    let next = text::spaced(out, at, text::wide(octets[i]));
+    text::spaced(out, next, gatelist::wide(intervals[i]))
 }
 
 // The octet and the interval of each of the first n places.

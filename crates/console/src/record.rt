@@ -179,13 +179,9 @@ pub fn call_load(s: &[u8], c: Scan, p: Port, out: &mut [u8]) -> Held {
     answered(q, at)
 }
 
-fn wide(x: u8) -> u64 {
-    x as u64
-}
-
 // An octet, also that of a mark, as it stands.
 fn say_octet(out: &mut [u8], at: usize, x: u8) -> usize {
-    text::spaced(out, at, wide(x))
+    text::spaced(out, at, text::wide(x))
 }
 
 fn say_gates(out: &mut [u8], x: Times) -> usize {

@@ -34,11 +34,11 @@ use Rattle.port.specs.Step.{stepDeclines, passes, reported, afterStep, StepsBy,
 use Rattle.port.proofs.Coding.{decode-encode, encoded-fine, clock-encode}
 use Rattle.lister.specs.declared.Listed.{Listed}
 use Rattle.lister.specs.declared.opening.Opened.{Opened}
-use Rattle.lister.specs.declared.strides.Strode.{Strode}
-use Rattle.lister.specs.declared.strides.Walked.{Walked}
+use Rattle.lister.specs.declared.strides.StrideEnd.{StrideEnd}
+use Rattle.lister.specs.declared.strides.SpanEnd.{SpanEnd}
 use Rattle.lister.specs.Opening.{stepsTo, opening}
 use Rattle.lister.specs.Lines.{changeLine, changeLines, refusedLine, firstLine, lastLine, spanLines, openingLines, listing}
-use Rattle.lister.specs.Pages.{clockOf, Ready, Fills, columnLines, goesOn, linesOf, Strides, Went, Walks, openedAs, Opens, Lists}
+use Rattle.lister.specs.Pages.{clockOf, Ready, Fills, columnLines, goesOn, linesOf, OneStride, ListedUpTo, WholeSpan, openedAs, Opens, Lists}
 use Rattle.lister.proofs.Opened.{clock-decode, refused-told, declines-step}
 use Rattle.lister.proofs.Texts.{line-short, columns-lines, lines-append}
 
@@ -154,7 +154,7 @@ module _ (p : Port) (end : ℕ) (ready : Ready p end) (at at′ os os′ : List 
 
   -- the page
   pub stride-strides : clockOf p < end → (n : ℕ) → s .answer ≡ stepAnswer.Written n → (page page′ : List ℕ) (used : ℕ)
-      → Fills (columnLines at′ os′ n) page page′ used → Strides p end page page′ (record { port = s .port; used = used })
+      → Fills (columnLines at′ os′ n) page page′ used → OneStride p end page page′ (record { port = s .port; used = used })
   unfolding far changes-far
   stride-strides h n e page page′ used f =
       let c = clock-on p end ready (s .port) far stride-port in
@@ -172,9 +172,9 @@ module _ (p : Port) (end : ℕ) (ready : Ready p end) (at at′ os os′ : List 
 
 -- the strides joined
 
-pub went-start : (p : Port) (end : ℕ) → Ready p end → Went p p end 0
+pub upto-start : (p : Port) (end : ℕ) → Ready p end → ListedUpTo p p end 0
 unfolding ticks log changeLines
-went-start p end r = record {
+upto-start p end r = record {
   ready = r;
   from = omega arith;
   upto = ready-ahead p end r;
@@ -182,19 +182,19 @@ went-start p end r = record {
   count = ap (λ k. length (changeLines (log machine k (decode p)))) (sym (sub-self (clockOf p)));
 }
 
-module _ (p q : Port) (end octets : ℕ) (w : Went p q end octets) where
-  pub went-ready : Ready q end
-  went-ready = ready-on p end (w .ready) q (clockOf q - clockOf p) (w .port) (omega (arith, w .from, w .upto))
+module _ (p q : Port) (end octets : ℕ) (w : ListedUpTo p q end octets) where
+  pub upto-ready : Ready q end
+  upto-ready = ready-on p end (w .ready) q (clockOf q - clockOf p) (w .port) (omega (arith, w .from, w .upto))
 
-  pub went-few : octets ≤ 24_000_000_000
-  went-few =
+  pub upto-few : octets ≤ 24_000_000_000
+  upto-few =
       let z = ready-passed p end (w .ready) in
       let c = clock-decode p in
       omega
       (arith, w .count, w .from, w .upto, z .short, z .reached, c, log-short (clockOf q - clockOf p) (decode p) (omega (arith, w .from, w .upto, z .reached, c)))
 
-  pub went-more : (page page′ : List ℕ) (t : Strode) → Strides q end page page′ t → Went p (t .port) end (octets + t .used)
-  went-more page page′ t s =
+  pub upto-more : (page page′ : List ℕ) (t : StrideEnd) → OneStride q end page page′ t → ListedUpTo p (t .port) end (octets + t .used)
+  upto-more page page′ t s =
       let k : ℕ = clockOf q - clockOf p in
       let j : ℕ = clockOf (t .port) - clockOf q in
       let e : clockOf (t .port) - clockOf p ≡ k + j = omega (arith, w .from, s .onward) in
@@ -212,17 +212,17 @@ module _ (p q : Port) (end octets : ℕ) (w : Went p q end octets) where
             ∙ ap length (sym l) ∙ ap (λ n. length (linesOf p n)) (sym e);
       }
 
-  pub went-walks : end ≤ clockOf q → Walks p end (record { port = q; octets = octets; whole = true })
-  went-walks h =
+  pub upto-span : end ≤ clockOf q → WholeSpan p end (record { port = q; octets = octets; whole = true })
+  upto-span h =
       let e : clockOf q - clockOf p ≡ end - clockOf p = omega (arith, h, w .upto) in
-      record { few = went-few; port = λ _. w .port ∙ ap (goesOn p) e; count = λ _. w .count ∙ ap (λ k. length (linesOf p k)) e }
+      record { few = upto-few; port = λ _. w .port ∙ ap (goesOn p) e; count = λ _. w .count ∙ ap (λ k. length (linesOf p k)) e }
 
-pub cut-walks : (p : Port) (end : ℕ) → Walks p end (record { port = p; octets = 0; whole = false })
-cut-walks p end = record { few = omega arith; port = λ e. absurd (true≢false (sym e)); count = λ e. absurd (true≢false (sym e)) }
+pub cut-span : (p : Port) (end : ℕ) → WholeSpan p end (record { port = p; octets = 0; whole = false })
+cut-span p end = record { few = omega arith; port = λ e. absurd (true≢false (sym e)); count = λ e. absurd (true≢false (sym e)) }
 
 -- the parts of a listing
 
-module _ (p : Port) (end : ℕ) (r : Ready p end) (w : Walked) (k : Walks p end w) (e : w .whole ≡ true) where
+module _ (p : Port) (end : ℕ) (r : Ready p end) (w : SpanEnd) (k : WholeSpan p end w) (e : w .whole ≡ true) where
   pub walked-fine : Fine (w .port)
   walked-fine = fine-on p end r (w .port) (end - clockOf p) (k .port e) (omega (arith, ready-ahead p end r))
 

@@ -19,8 +19,8 @@ use Rattle.port.specs.Step.{stepDeclines}
 use Rattle.lister.specs.declared.Listed.{Listed}
 use Rattle.lister.specs.declared.Listed.the-variants.{Whole, Cut}
 use Rattle.lister.specs.declared.opening.Opened.{Opened}
-use Rattle.lister.specs.declared.strides.Strode.{Strode}
-use Rattle.lister.specs.declared.strides.Walked.{Walked}
+use Rattle.lister.specs.declared.strides.StrideEnd.{StrideEnd}
+use Rattle.lister.specs.declared.strides.SpanEnd.{SpanEnd}
 use Rattle.lister.specs.Opening.{Opening, refused, spans}
 use Rattle.lister.specs.Lines.{changeLine, changeLines}
 
@@ -64,21 +64,21 @@ abbrev pub linesOf : Port → ℕ → List ℕ
 linesOf p k = changeLines (log machine k (decode p))
 
 -- a stride comes nearer to the end, and its page has the lines of its changes
-pub record Strides (p : Port) (end : ℕ) (page page′ : List ℕ) (r : Strode) : Type 0 where
+pub record OneStride (p : Port) (end : ℕ) (page page′ : List ℕ) (r : StrideEnd) : Type 0 where
   pub onward : clockOf p < clockOf (r .port)
   pub within : clockOf (r .port) ≤ end
   pub port : r .port ≡ goesOn p (clockOf (r .port) - clockOf p)
   pub lines : Fills (linesOf p (clockOf (r .port) - clockOf p)) page page′ (r .used)
 
 -- the strides up to the clock of q: the changes of the whole way, and how many octets their lines have
-pub record Went (p q : Port) (end octets : ℕ) : Type 0 where
+pub record ListedUpTo (p q : Port) (end octets : ℕ) : Type 0 where
   pub ready : Ready p end
   pub from : clockOf p ≤ clockOf q
   pub upto : clockOf q ≤ end
   pub port : q ≡ goesOn p (clockOf q - clockOf p)
   pub count : octets ≡ length (linesOf p (clockOf q - clockOf p))
 
-pub record Walks (p : Port) (end : ℕ) (r : Walked) : Type 0 where
+pub record WholeSpan (p : Port) (end : ℕ) (r : SpanEnd) : Type 0 where
   pub few : r .octets ≤ 24_000_000_000
   pub port : r .whole ≡ true → r .port ≡ goesOn p (end - clockOf p)
   pub count : r .whole ≡ true → r .octets ≡ length (linesOf p (end - clockOf p))

@@ -41,31 +41,6 @@ pub fn next_word(s: &[u8], at: usize) -> Word {
     Word { first, end }
 }
 
-// A digit's value; 16 is none.
-fn digit(b: u8) -> u64
-    ensures { λ r. ⌜ r ≤ 16 ⌝ }
-{
-    if b < 48 {
-        return 16;
-    }
-    if b < 58 {
-        return text::wide(b) - 48;
-    }
-    if b < 65 {
-        return 16;
-    }
-    if b < 71 {
-        return text::wide(b) - 55;
-    }
-    if b < 97 {
-        return 16;
-    }
-    if b < 103 {
-        return text::wide(b) - 87;
-    }
-    16
-}
-
 fn failed(error: u8) -> Parsed
     ensures { λ r. ⌜ r .value ≡ 0 ⌝ }
 {
@@ -74,7 +49,7 @@ fn failed(error: u8) -> Parsed
 
 // One decimal digit more.
 fn decimal_digit(value: u64, b: u8) -> Parsed {
-    let d = digit(b);
+    let d = text::wide(text::hex_value(b));
     if 9 < d {
         return failed(NO_NUMBER);
     }
@@ -89,7 +64,7 @@ fn decimal_digit(value: u64, b: u8) -> Parsed {
 
 // One hexadecimal digit more.
 fn hex_digit(value: u64, b: u8) -> Parsed {
-    let d = digit(b);
+    let d = text::wide(text::hex_value(b));
     if 15 < d {
         return failed(NO_NUMBER);
     }

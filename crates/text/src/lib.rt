@@ -16,6 +16,7 @@ pub use scan::Taken32;
 pub use scan::Token;
 pub use scan::at_end;
 pub use scan::find;
+pub use scan::hex_value;
 pub use scan::next;
 pub use scan::number;
 pub use scan::number8;

@@ -2,7 +2,7 @@
 // it takes nothing. Every function takes any line and any scan.
 ghost use Prim.Native.Nat.{_<_, _≤_};
 ghost use mathlib.Core.Path.{_≡_};
-ghost use Rattle.text.specs.Scan.{firstScan, atEnd, findFrom, sameOctets};
+ghost use Rattle.text.specs.Scan.{firstScan, atEnd, findFrom, hexValue, sameOctets};
 
 // Where a scan of a line stands. Begun: a token was taken, so the next has a space before it.
 pub struct Scan {
@@ -136,19 +136,32 @@ pub fn at_end(s: &[u8], c: Scan) -> bool
     c.good & (c.at == s.len())
 }
 
+// The value of a hexadecimal digit, in upper or lower case; 16 for any other octet.
+pub fn hex_value(octet: u8) -> u8
+    ensures { λ r. ⌜ (r ≡ hexValue octet) × (r ≤ 16) ⌝ }
+{
+    if (48 <= octet) & (octet <= 57) {
+        return octet - 48;
+    }
+    if (65 <= octet) & (octet <= 70) {
+        return octet - 55;
+    }
+    if (97 <= octet) & (octet <= 102) {
+        return octet - 87;
+    }
+    16
+}
+
 // One digit more. Not good: no digit, or a number above 2^64 - 1.
 fn digit(value: u64, octet: u8) -> Value {
     let none = Value {
         value: 0,
         good: false,
     };
-    if octet < 48 {
+    let d = wide(hex_value(octet));
+    if 9 < d {
         return none;
     }
-    if 57 < octet {
-        return none;
-    }
-    let d = wide(octet) - 48;
     if (18_446_744_073_709_551_615 - d) / 10 < value {
         return none;
     }

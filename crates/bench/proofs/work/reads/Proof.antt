@@ -32,11 +32,11 @@ octet-at-requires c κs = search needs
 wrapping-add-u64-requires : tie.Need-wrapping-add-u64-requires Inv-loop μ-loop
 wrapping-add-u64-requires c κs = search needs
 
-array-read-wide32 : tie.Need-array-read-wide32 Inv-loop μ-loop
-array-read-wide32 c = search needs
+array-read-wide : tie.Need-array-read-wide Inv-loop μ-loop
+array-read-wide c = search needs
 
-wide32-requires : tie.Need-wide32-requires Inv-loop μ-loop
-wide32-requires c κs = search needs
+wide-requires : tie.Need-wide-requires Inv-loop μ-loop
+wide-requires c κs = search needs
 
 wrapping-add-u64-requires-2 : tie.Need-wrapping-add-u64-requires-2 Inv-loop μ-loop
 wrapping-add-u64-requires-2 c κs = search needs
@@ -66,8 +66,8 @@ reads-spec =
     read-requires
     octet-at-requires
     wrapping-add-u64-requires
-    array-read-wide32
-    wide32-requires
+    array-read-wide
+    wide-requires
     wrapping-add-u64-requires-2
     add-i
     loop-less

@@ -1,10 +1,12 @@
-// Worked runs: document 01's bench cases that are run and not proved, and a sheet for each refusal that a sheet can meet. What is written is compared with
+// Worked runs: document 01's bench cases that are run and not proved, transmits in view of a change that waits, and a sheet for each refusal that a sheet can meet. What is written is compared with
 // crates/cases/stdout.
 mod sheets;
+mod waiting;
 mod worked;
 
 fn main() {
     worked::case_11();
     worked::case_12();
+    waiting::request_2();
     sheets::sheets();
 }

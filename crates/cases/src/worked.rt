@@ -5,7 +5,7 @@ use port::Port;
 use port::StepAnswer;
 
 // List A's record.
-fn list_a() -> GateList {
+pub fn list_a() -> GateList {
     let mut octets = [0u8; 128];
     let mut intervals = [0u32; 128];
     octets[0] = 0x80;

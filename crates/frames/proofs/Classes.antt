@@ -1,7 +1,7 @@
 -- The choice of a frame by its parts. In order: durations; the longest head; the highest class and its frame; gates that stay open; the classes that qualify.
 -- Assumes nothing.
-use mathlib.Core.Path.{_≡_, refl, ap, ap₂, sym, _∙_, subst}
-use mathlib.Core.Bool.{Bool, true, false, cond, not, _&&_, true≢false}
+use mathlib.Core.Path.{_≡_, refl, ap, sym, _∙_, subst}
+use mathlib.Core.Bool.{Bool, true, false, cond, _&&_, true≢false}
 use mathlib.Core.List.{List}
 use mathlib.Core.Option.{Option, none, some}
 use Prim.Native.Nat.{ℕ, zero, suc, _+_, _-_, _*_, _≤_, _<_, max}
@@ -14,12 +14,12 @@ use Rattle.rule.specs.Limits.{longestFrame, longestSpan}
 use Rattle.rule.specs.Gates.{isOpen}
 use Rattle.rule.specs.Choice.{duration, staysOpen, qualifies, highest, frameFor, chosen}
 use Rattle.rule.proofs.Sound.{duration-short}
-use Rattle.rule.proofs.Choice.{speed-range, Highest, highest-is}
+use Rattle.rule.proofs.Choice.{speed-range, Highest, highest-is, highest-same}
 use Rattle.frames.specs.Ahead.{never, ClosesAt, Closes}
 use Rattle.frames.specs.declared.choosing.Found.{Found}
 use Rattle.frames.specs.declared.choosing.Found.the-variants.{Class, Nobody}
 use Rattle.frames.specs.Frame.{encodeFrame, noFrame}
-use Rattle.frames.specs.Choosing.{Forms, ready, endsBy, Longest, Offered, foundOf}
+use Rattle.frames.specs.Choosing.{Forms, headed, endsBy, Longest, Offered, foundOf}
 use Rattle.frames.proofs.Octets.{forms-at}
 
 -- durations
@@ -70,12 +70,6 @@ module _ (q : ℕ → Bool) where
   unfolding highest
   highest-none k e = ap (highest q) e
 
-  pub highest-same : (p : ℕ → Bool) (n : ℕ) → ((k : ℕ) → k < n → p k ≡ q k) → highest p n ≡ highest q n
-  unfolding highest
-  highest-same p zero f = refl
-  highest-same p (suc n) f =
-      ap₂ (λ b r. cond b (some n) r) (f n (omega arith)) (highest-same p n (λ k h. f k (omega arith)))
-
 -- the class found
 
 found-class : (o : Option ℕ) (k : ℕ) → foundOf o ≡ Class k → o ≡ some k
@@ -121,42 +115,40 @@ module _ (g : ℕ → ℕ) (k : ℕ) where
       go false z true o f = let w = eqb-false v t z in f (omega arith)
 
   -- a frame of d ns, begun at t, that ends by last: the gate stays open if its end is no later than the closing
-  closes-stays : (t last at d : ℕ) → ClosesAt g k (t + 1) last at → t + d ≤ last → t + d ≤ never → staysOpen g k (suc t) (d - 1) ≡ leb (t + d) at
+  closes-stays : (t last at d : ℕ) → ClosesAt g k t last at → t + d ≤ last → t + d ≤ never → staysOpen g k t d ≡ leb (t + d) at
   closes-stays t last at d c h m = go (leb (t + d) at) refl
     where
-      go : (b : Bool) → leb (t + d) at ≡ b → staysOpen g k (suc t) (d - 1) ≡ b
-      go true z = let w = leb-true (t + d) at z in stays-all (suc t) (d - 1) (λ v x y. c .stays v (omega arith) (omega arith) (omega arith))
+      go : (b : Bool) → leb (t + d) at ≡ b → staysOpen g k t d ≡ b
+      go true z = let w = leb-true (t + d) at z in stays-all t d (λ v x y. c .stays v x (omega arith) (omega arith))
       go false z =
           let w = leb-false (t + d) at z in
           let s = c .shut (omega arith) in
-          let l : t + 1 ≤ at = s .0 in
-          stays-not (suc t) (d - 1) at (omega arith) (omega arith) (s .1)
+          stays-not t d at (s .0) w (s .1)
 
 -- the classes that qualify
 
-module _ (heads : List ℕ) (speed t octet : ℕ) (g : ℕ → ℕ) (o : Offered heads speed) (w len last : ℕ) (closing : List ℕ)
-    (early : t + longestSpan ≤ never) (wants : Forms (ready heads octet) 8 w) (long : Longest w heads 8 len) (ends : last ≡ t + duration len speed)
-    (closes : Closes g (t + 1) last w closing) where
-  pub qualifies-is : (k : ℕ) → k < 8 → endsBy heads speed t w closing k ≡ qualifies heads speed t octet g k
+module _ (heads : List ℕ) (speed t : ℕ) (g : ℕ → ℕ) (o : Offered heads speed) (w len last : ℕ) (closing : List ℕ)
+    (early : t + longestSpan ≤ never) (wants : Forms (headed heads) 8 w) (long : Longest w heads 8 len) (ends : last ≡ t + duration len speed)
+    (closes : Closes g t last w closing) where
+  pub qualifies-is : (k : ℕ) → k < 8 → endsBy heads speed t w closing k ≡ qualifies heads speed t g k
   unfolding qualifies Closes
-  qualifies-is k h = go (not (eqb (getD heads k 0) 0)) (isOpen octet k) (forms-at (ready heads octet) w wants k h)
+  qualifies-is k h = go (headed heads k) (forms-at (headed heads) w wants k h)
     where
-      stays : isOpen w k ≡ true → staysOpen g k (suc t) (duration (getD heads k 0) speed - 1) ≡ leb (t + duration (getD heads k 0) speed) (getD closing k 0)
+      stays : isOpen w k ≡ true → staysOpen g k t (duration (getD heads k 0) speed) ≡ leb (t + duration (getD heads k 0) speed) (getD closing k 0)
       stays e =
           let v = speed-range speed (o .fast) in
           let r = duration-range (getD heads k 0) speed (o .short k) (v .0) (v .1) in
           let m = duration-mono (getD heads k 0) len speed (long .each k h e) (omega (arith, v .0)) in
           closes-stays g k t last (getD closing k 0) (duration (getD heads k 0) speed) (closes k h e) (omega arith) (omega (arith, r .1))
 
-      go : (a b : Bool) → isOpen w k ≡ a && b
-          → isOpen w k && leb (t + duration (getD heads k 0) speed) (getD closing k 0) ≡ a && b && staysOpen g k (suc t) (duration (getD heads k 0) speed - 1)
-      go true true e = ap (λ x. x && leb (t + duration (getD heads k 0) speed) (getD closing k 0)) e ∙ sym (stays e)
-      go true false e = rw e
-      go false b e = rw e
+      go : (a : Bool) → isOpen w k ≡ a
+          → isOpen w k && leb (t + duration (getD heads k 0) speed) (getD closing k 0) ≡ a && staysOpen g k t (duration (getD heads k 0) speed)
+      go true e = ap (λ x. x && leb (t + duration (getD heads k 0) speed) (getD closing k 0)) e ∙ sym (stays e)
+      go false e = rw e
 
 -- the frame of the highest class of the octet that qualifies is the one that is chosen
-pub chosen-by : (heads : List ℕ) (speed t octet : ℕ) (g : ℕ → ℕ) (q : ℕ) → Forms (qualifies heads speed t octet g) 8 q
-    → frameFor heads speed t (highest (isOpen q) 8) ≡ chosen heads speed t octet g
+pub chosen-by : (heads : List ℕ) (speed t : ℕ) (g : ℕ → ℕ) (q : ℕ) → Forms (qualifies heads speed t g) 8 q
+    → frameFor heads speed t (highest (isOpen q) 8) ≡ chosen heads speed t g
 unfolding chosen
-chosen-by heads speed t octet g q f =
-    ap (frameFor heads speed t) (highest-same (qualifies heads speed t octet g) (isOpen q) 8 (forms-at (qualifies heads speed t octet g) q f))
+chosen-by heads speed t g q f =
+    ap (frameFor heads speed t) (highest-same (isOpen q) (qualifies heads speed t g) 8 (forms-at (qualifies heads speed t g) q f))

@@ -1,7 +1,7 @@
 -- When gates close. In order: instants set one by one; an octet shown; what a walk knows; a stretch; a span; what the look ahead may be asked of.
 -- Assumes nothing.
 use mathlib.Core.Path.{_≡_, refl, ap, sym, _∙_, subst, subst⁻¹}
-use mathlib.Core.Bool.{Bool, true, false, cond, not, _&&_, true≢false}
+use mathlib.Core.Bool.{Bool, true, false, cond, not, _&&_}
 use mathlib.Core.List.{List}
 use Prim.Native.Nat.{ℕ, zero, suc, _+_, _-_, _≤_, _<_, min}
 use native.Mathlib.Omega.{arith}
@@ -23,9 +23,8 @@ use Rattle.timetable.specs.declared.cursor.Cursor.{Cursor}
 use Rattle.timetable.specs.declared.cursor.Stretch.{Stretch}
 use Rattle.timetable.specs.Coding.{decode, Fine}
 use Rattle.timetable.specs.Regime.{spanAt, Governs}
-use Rattle.timetable.specs.Cursor.{Placed, Points, Advances, Used}
+use Rattle.timetable.specs.Cursor.{Placed, Points, Advances}
 use Rattle.timetable.specs.Stretch.{Walkable, Plays}
-use Rattle.timetable.specs.Updates.{withTimes}
 use Rattle.timetable.proofs.Spans.{InTime, governs}
 use Rattle.timetable.proofs.Pointing.{points-octet}
 use Rattle.timetable.proofs.Stretches.{points-start, from-stop, safe-next, points-next, plain-round}
@@ -266,42 +265,10 @@ module _ (g : Timetable) (t edge : ℕ) (r : Span) (s : Spans (g .times) t edge 
             let m = z .cycle in
             tells-round (shown (decode g)) u wanted (z .config) (z .valid) t edge l (z .started) (λ v x y. z .all v x (omega arith)) stop d (omega arith) (omega arith) w
 
--- a fine record is readable, and so is one that shows the plain cycles of what operates
+-- a fine record is readable
 
 pub fine-readable : (g : Timetable) → Fine g → Readable g
 fine-readable g k = record { in-time = in-time g k; lists = λ b e. (list-fine g k b e, list-used g k b e) }
-
--- what the look ahead counts on: on, and nothing waits
-abbrev pub plainTimes : Times → Times
-plainTimes x = record {
-  clock = x .clock;
-  on = 1;
-  standing = x .standing;
-  operates = x .operates;
-  waits = 0;
-  len = x .len;
-  cycle = x .cycle;
-  extension = x .extension;
-  start = x .start;
-  newlen = x .newlen;
-  newcycle = x .newcycle;
-  newextension = x .newextension;
-  change = x .change;
-  since = x .since;
-  errors = x .errors;
-}
-
-pub plain-readable : (g : Timetable) → Fine g → Readable (withTimes (plainTimes (g .times)) g)
-plain-readable g k = record {
-  in-time = λ t a b. let i = in-time g k t a b in record { near = b; operating = i .operating; waiting = λ e. absurd (true≢false (sym e)) };
-  lists = λ b e. go b e;
-}
-  where
-    go : (b : Bool) → isThere (plainTimes (g .times)) b ≡ true
-        → ((1 ≤ listIn (withTimes (plainTimes (g .times)) g) b .len) × (listIn (withTimes (plainTimes (g .times)) g) b .len ≤ 128))
-        × Used (listIn (withTimes (plainTimes (g .times)) g) b .intervals) (listIn (withTimes (plainTimes (g .times)) g) b .len)
-    go true e = absurd (true≢false (sym e))
-    go false e = (list-fine g k false e, list-used g k false e)
 
 -- the span that rules at t, on the way to last
 

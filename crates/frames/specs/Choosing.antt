@@ -10,9 +10,9 @@ use lib.Dec.{eqb, leb, ltb}
 use lib.ListN.{getD}
 use Rattle.rule.specs.Limits.{longestFrame}
 use Rattle.rule.specs.Gates.{isOpen}
-use Rattle.rule.specs.Choice.{duration, lookAhead, chosen}
+use Rattle.rule.specs.Choice.{duration, chosen}
 use Rattle.rule.specs.Orders.{speedOffered}
-use Rattle.rule.specs.Timetable.{Timetable, shownNow}
+use Rattle.rule.specs.Timetable.{Timetable, shown}
 use Rattle.rule.specs.Port.{Frame}
 use Rattle.frames.specs.declared.choosing.Found.{Found}
 use Rattle.frames.specs.declared.choosing.Found.the-variants.{Class, Nobody}
@@ -25,9 +25,9 @@ Sets class b octet r = (k : ℕ) → k < 8 → isOpen r k ≡ isOpen octet k || 
 abbrev pub Forms : (ℕ → Bool) → ℕ → ℕ → Type 0
 Forms q n r = (k : ℕ) → k < 8 → isOpen r k ≡ ltb k n && q k
 
--- the class has a frame, and its gate is open
-abbrev pub ready : List ℕ → ℕ → ℕ → Bool
-ready heads octet k = not (eqb (getD heads k 0) 0) && isOpen octet k
+-- the class has a frame
+abbrev pub headed : List ℕ → ℕ → Bool
+headed heads k = not (eqb (getD heads k 0) 0)
 
 -- the class is one of an octet, and its frame, begun at t, ends by the closing of its gate
 abbrev pub endsBy : List ℕ → ℕ → ℕ → ℕ → List ℕ → ℕ → Bool
@@ -50,4 +50,4 @@ foundOf (some k) = Class k
 
 -- the frame that an accepted transmit begins
 abbrev pub begun : List ℕ → ℕ → Timetable → Option Frame
-begun heads speed m = chosen heads speed (m .clock) (shownNow m) (lookAhead m)
+begun heads speed m = chosen heads speed (m .clock) (shown m)

@@ -9,14 +9,13 @@ ghost use Rattle.rule.specs.Choice as model;
 ghost use Rattle.timetable.specs.Coding.{decode, Fine};
 ghost use Rattle.frames.specs.Frame.{encodeFrame};
 ghost use Rattle.frames.specs.Ahead.{Readable};
-ghost use Rattle.frames.specs.Choosing.{Sets, Forms, ready, endsBy, Longest, Offered, foundOf, begun};
+ghost use Rattle.frames.specs.Choosing.{Sets, Forms, headed, endsBy, Longest, Offered, foundOf, begun};
 use crate::Frame;
 use crate::ahead::closings;
 use crate::ahead::pick;
 use crate::sent::no_frame;
 use timetable::Times;
 use timetable::most;
-use timetable::shown_at;
 
 // So many nanoseconds a frame of a length takes at a speed in Mbit/s.
 fn duration(len: u64, speed: u64) -> u64
@@ -34,17 +33,15 @@ fn with_bit(octet: u8, class: u8, bit: bool) -> u8
     if bit { octet | (1 << class) } else { octet }
 }
 
-// The classes that have a frame and whose gates are open in an octet.
-fn wanted(heads: [u64; 8], octet: u8) -> u8
-    ensures { λ r. ⌜ Forms (ready heads octet) 8 r ⌝ }
+// The classes that have a frame.
+fn wanted(heads: [u64; 8]) -> u8
+    ensures { λ r. ⌜ Forms (headed heads) 8 r ⌝ }
 {
     let mut q: u8 = 0;
     for k in 0..8 {
         let n = heads[k];
         let class = k as u8;
-        let is_open = gatelist::gate(octet, class);
-        let bit = (n != 0) & is_open;
-        q = with_bit(q, class, bit);
+        q = with_bit(q, class, n != 0);
     }
     q
 }
@@ -91,7 +88,7 @@ fn in_time(octet: u8, heads: [u64; 8], speed: u64, t: u64, closing: [u64; 8]) ->
     q
 }
 
-// The classes that qualify at the clock, with an octet shown now and a timetable to count on from then.
+// The classes that qualify at the clock, by what a timetable shows from then on.
 fn qualifying<'a>(
     x: Times,
     os: &'a [u8; 128],
@@ -100,18 +97,17 @@ fn qualifying<'a>(
     zs: &'a [u32; 128],
     heads: [u64; 8],
     speed: u64,
-    octet: u8,
 ) -> u8
     requires { ⌜ Readable (record { times = x; octets = now os; intervals = now vs; newoctets = now ws; newintervals = now zs }) ⌝ }
     requires { ⌜ Offered heads speed ⌝ }
     requires { ⌜ x .clock ≤ largestInstant ⌝ }
-    ensures { λ r. ⌜ Forms (model.qualifies heads speed (x .clock) octet (shown (decode (record { times = x; octets = now (os .entry); intervals = now (vs .entry); newoctets = now (ws .entry); newintervals = now (zs .entry) })))) 8 r ⌝ }
+    ensures { λ r. ⌜ Forms (model.qualifies heads speed (x .clock) (shown (decode (record { times = x; octets = now (os .entry); intervals = now (vs .entry); newoctets = now (ws .entry); newintervals = now (zs .entry) })))) 8 r ⌝ }
 {
     let t = x.clock;
-    let w = wanted(heads, octet);
+    let w = wanted(heads);
     let len = longest(heads, w);
     let last = t + duration(len, speed);
-    let g = closings(x, os, vs, ws, zs, w, t + 1, last);
+    let g = closings(x, os, vs, ws, zs, w, t, last);
     let closing = g.closing;
     in_time(w, heads, speed, t, closing)
 }
@@ -161,7 +157,7 @@ fn frame_for(octet: u8, heads: [u64; 8], speed: u64, t: u64) -> Frame
     }
 }
 
-// The frame that is chosen now, or none. The look ahead counts on the plain cycles of what operates, or on the standing octet.
+// The frame that is chosen now, or none. The look ahead counts on what is shown if no further act comes.
 pub fn chosen<'a>(
     x: Times,
     os: &'a [u8; 128],
@@ -175,13 +171,6 @@ pub fn chosen<'a>(
     requires { ⌜ Offered heads speed ⌝ }
     ensures { λ r. ⌜ r ≡ encodeFrame (begun heads speed (decode (record { times = x; octets = now (os .entry); intervals = now (vs .entry); newoctets = now (ws .entry); newintervals = now (zs .entry) }))) ⌝ }
 {
-    let t = x.clock;
-    let octet = shown_at(x, os, vs, ws, zs, t);
-    let plain = Times {
-        on: 1,
-        waits: 0,
-        ..x
-    };
-    let q = qualifying(plain, os, vs, ws, zs, heads, speed, octet);
-    frame_for(q, heads, speed, t)
+    let q = qualifying(x, os, vs, ws, zs, heads, speed);
+    frame_for(q, heads, speed, x.clock)
 }

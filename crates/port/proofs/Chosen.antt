@@ -12,9 +12,9 @@ use Prim.Native.Nat.{ℕ, _+_, _<_}
 use native.Mathlib.Omega.{arith}
 use lib.ListN.{getD}
 use Rattle.rule.specs.declared.Refusal.{Refusal}
-use Rattle.rule.specs.Timetable.{shownNow}
+use Rattle.rule.specs.Timetable.{shown}
 use Rattle.rule.specs.Port as model
-use Rattle.rule.specs.Choice.{duration, lookAhead, qualifies}
+use Rattle.rule.specs.Choice.{duration, qualifies}
 use Rattle.rule.specs.Acts.{transmit, performed, perform, isSome}
 use Rattle.rule.specs.Orders.{accepts}
 use Rattle.rule.proofs.Choice.{Highest, Chosen, chosen-is, chosen-none}
@@ -40,7 +40,7 @@ module _ (heads : List ℕ) (speed : ℕ) (p : Port) (r : Transmitted) (k : Tran
 
   -- the class qualifies now, on the record
   abbrev pub qualifiesNow : ℕ → Bool
-  qualifiesNow = qualifies heads speed (decode p .gates .clock) (shownNow (decode p .gates)) (lookAhead (decode p .gates))
+  qualifiesNow = qualifies heads speed (decode p .gates .clock) (shown (decode p .gates))
 
   module _ (e : declines (transmit heads speed) p ≡ none) where
     answered : r .answer ≡ choiceOf none (performed (transmit heads speed) (decode p) .frame)
@@ -51,7 +51,7 @@ module _ (heads : List ℕ) (speed : ℕ) (p : Port) (r : Transmitted) (k : Tran
 
     pub chooses-none : (r .answer ≡ choice.Nothing) ↔ ((j : ℕ) → j < 8 → qualifiesNow j ≡ false)
     chooses-none =
-        let c = chosen-none heads speed (decode p .gates .clock) (shownNow (decode p .gates)) (lookAhead (decode p .gates)) in (
+        let c = chosen-none heads speed (decode p .gates .clock) (shown (decode p .gates)) in (
           λ a. c .0 (empty (performed (transmit heads speed) (decode p) .frame) (sym answered ∙ a)),
           λ f. answered ∙ nothing (performed (transmit heads speed) (decode p) .frame) (c .1 f),
         )
@@ -82,9 +82,9 @@ module _ (heads : List ℕ) (speed : ℕ) (p : Port) (r : Transmitted) (k : Tran
       pub chooses-highest : Highest qualifiesNow 8 (some class)
       chooses-highest =
           framed (performed (transmit heads speed) (decode p) .frame) (sym answered ∙ a)
-          (chosen-is heads speed (decode p .gates .clock) (shownNow (decode p .gates)) (lookAhead (decode p .gates))) .0
+          (chosen-is heads speed (decode p .gates .clock) (shown (decode p .gates))) .0
 
       pub chooses-frame : (start ≡ decode p .gates .clock) × (end ≡ decode p .gates .clock + duration (getD heads class 0) speed)
       chooses-frame =
           framed (performed (transmit heads speed) (decode p) .frame) (sym answered ∙ a)
-          (chosen-is heads speed (decode p .gates .clock) (shownNow (decode p .gates)) (lookAhead (decode p .gates))) .1
+          (chosen-is heads speed (decode p .gates .clock) (shown (decode p .gates))) .1

@@ -4,15 +4,17 @@ use mathlib.Core.Path.{_≡_, refl, ap, sym, _∙_}
 use mathlib.Core.Bool.{Bool, true, false, cond, not, _&&_, true≢false}
 use mathlib.Core.List.{List}
 use mathlib.Core.Option.{Option, none, some}
-use Prim.Native.Nat.{ℕ, suc, _-_}
+use Prim.Native.Nat.{ℕ, zero, suc, _+_}
+use native.Mathlib.Omega.{arith}
 use lib.Dec.{eqb, ltb}
 use lib.ListN.{getD}
+use borrow.Author.Tests.{le-ltb}
 use Rattle.rule.specs.Gates.{isOpen}
 use Rattle.rule.specs.declared.Refusal.{Refusal}
 use Rattle.rule.specs.Refusals.{accepted}
-use Rattle.rule.specs.Timetable.{shownNow}
+use Rattle.rule.specs.Timetable.{shown, shownNow}
 use Rattle.rule.specs.Port as model
-use Rattle.rule.specs.Choice.{lookAhead, staysOpen, qualifies, duration}
+use Rattle.rule.specs.Choice.{duration, staysOpen, qualifies}
 use Rattle.rule.specs.Acts.{transmit, performed, perform}
 use Rattle.rule.proofs.Choice.{Chosen, chosen-is}
 use Rattle.rule.proofs.Jump.{marked-no, counted-no}
@@ -31,36 +33,37 @@ use Rattle.port.specs.Updates.{withFrame}
 use Rattle.port.proofs.Numbers.{choice-number}
 use Rattle.port.proofs.Coding.{fine-parts}
 
--- the gate of a chosen class is open, so the overrun test finds nothing
+-- the gate of a chosen class is open until its frame ends, so the overrun test finds nothing
 
-qualifies-open : (heads : List ℕ) (speed t octet : ℕ) (g : ℕ → ℕ) (k : ℕ) → qualifies heads speed t octet g k ≡ true → isOpen octet k ≡ true
-unfolding qualifies
-qualifies-open heads speed t octet g k e =
-    go (not (eqb (getD heads k 0) 0)) (isOpen octet k) (staysOpen g k (suc t) (duration (getD heads k 0) speed - 1)) e
+qualifies-open : (heads : List ℕ) (speed t : ℕ) (g : ℕ → ℕ) (k : ℕ) → qualifies heads speed t g k ≡ true
+    → ltb t (t + duration (getD heads k 0) speed) && not (isOpen (g t) k) ≡ false
+unfolding qualifies staysOpen
+qualifies-open heads speed t g k = go (not (eqb (getD heads k 0) 0)) (duration (getD heads k 0) speed)
   where
-    go : (a b c : Bool) → a && b && c ≡ true → b ≡ true
-    go true true c q = refl
-    go true false c q = q
-    go false b c q = absurd (true≢false (sym q))
+    go : (a : Bool) (d : ℕ) → a && staysOpen g k t d ≡ true → ltb t (t + d) && not (isOpen (g t) k) ≡ false
+    go a zero q = rw (le-ltb t (t + 0) (omega arith))
+    go true (suc d) q = late (ltb t (t + suc d)) (isOpen (g t) k) q
+      where
+        late : (x o : Bool) → o && staysOpen g k (suc t) d ≡ true → x && not o ≡ false
+        late true true q = refl
+        late true false q = sym q
+        late false o q = refl
+    go false (suc d) q = absurd (true≢false (sym q))
 
 module _ (heads : List ℕ) (speed : ℕ) (m : model.Port) where
   abbrev sends : Option model.Frame
   sends = performed (transmit heads speed) m .frame
 
   sends-fits : model.overran (m .gates .clock) (shownNow (m .gates)) sends ≡ false
-  sends-fits = go sends (chosen-is heads speed (m .gates .clock) (shownNow (m .gates)) (lookAhead (m .gates)))
+  unfolding shownNow model.lastOctetAt
+  sends-fits = go sends (chosen-is heads speed (m .gates .clock) (shown (m .gates)))
     where
-      off : (a b : Bool) → a && (b && false) ≡ false
-      off true true = refl
-      off true false = refl
-      off false b = refl
-
-      go : (o : Option model.Frame) → Chosen heads speed (m .gates .clock) (qualifies heads speed (m .gates .clock) (shownNow (m .gates)) (lookAhead (m .gates))) o
+      go : (o : Option model.Frame) → Chosen heads speed (m .gates .clock) (qualifies heads speed (m .gates .clock) (shown (m .gates))) o
           → model.overran (m .gates .clock) (shownNow (m .gates)) o ≡ false
       go none c = refl
       go (some f) c =
-          let b = qualifies-open heads speed (m .gates .clock) (shownNow (m .gates)) (lookAhead (m .gates)) (f .class) (c .0 .1 .0) in
-          ap (λ z. not (f .counted) && (ltb (m .gates .clock) (model.lastOctetAt f) && not z)) b ∙ off (not (f .counted)) (ltb (m .gates .clock) (model.lastOctetAt f))
+          ap (λ o. model.overran (m .gates .clock) (shownNow (m .gates)) (some o)) (c .1)
+          ∙ qualifies-open heads speed (m .gates .clock) (shown (m .gates)) (f .class) (c .0 .1 .0)
 
   pub transmit-perform : perform (transmit heads speed) m ≡ record { gates = m .gates; frame = sends; overruns = m .overruns }
   unfolding perform

@@ -14,7 +14,7 @@ use Rattle.rule.specs.Entries.{Entry, entryNo, octetAt}
 use Rattle.rule.specs.Cycle.{Config, cycleOffered, startNo, cycleNo, firstNo, changeInstant, lastNo, plainStart, bentStart, plainOctet, bentOctet}
 use Rattle.rule.specs.Timetable.{Timetable, Waiting, raise, octetUnder, shown, shownNow}
 use Rattle.rule.specs.Port.{Port, Frame, lastOctetAt}
-use Rattle.rule.specs.Choice.{duration, lookAhead, staysOpen, qualifies, highest, frameFor, chosen}
+use Rattle.rule.specs.Choice.{duration, staysOpen, qualifies, highest, frameFor, chosen}
 use Rattle.rule.specs.Acts.{submit, Submission, isSome, configOf, errorsAfter, submitted, performGates, transmit, perform}
 use Rattle.rule.specs.Orders.{lengthOffered, hasZeroInterval, speedOffered, headOffered, submitOrder, transmitOrder, gateOrder, actOrder}
 
@@ -130,7 +130,7 @@ hold (x ∷ l) = cond (eqb (x .0) (x .1)) (hold l) false
 pub starred-hold : T (hold starred)
 unfolding starred hold listA submissionA gatesOf idle configA runsA number submits after changeOf change waits last cycleNumber sends asks classOf choice longer
     isOpen entryNo octetAt cycleOffered startNo cycleNo firstNo changeInstant lastNo plainStart bentStart plainOctet bentOctet
-    raise octetUnder shown shownNow duration lookAhead staysOpen qualifies highest frameFor chosen configOf errorsAfter submitted perform
+    raise octetUnder shown shownNow duration staysOpen qualifies highest frameFor chosen configOf errorsAfter submitted perform
     lengthOffered hasZeroInterval speedOffered headOffered submitOrder transmitOrder lastOctetAt
 starred-hold = tt
 

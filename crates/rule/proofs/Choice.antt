@@ -1,9 +1,9 @@
 -- Document 01, 'Choosing a frame': no frame is chosen exactly if no class qualifies, and the chosen class is the highest that does. In order: the highest
--- class that passes a test; the same of the choice; the speeds and durations.
+-- class that passes a test; the same of the choice; what it depends on; the speeds and durations.
 -- Assumes nothing.
-use mathlib.Core.Path.{_≡_, refl, sym, _∙_, subst⁻¹}
+use mathlib.Core.Path.{_≡_, refl, ap, ap₂, sym, _∙_, subst⁻¹}
 use mathlib.Core.Logic.{_↔_}
-use mathlib.Core.Bool.{Bool, true, false, cond, true≢false}
+use mathlib.Core.Bool.{Bool, true, false, cond, not, _&&_, true≢false}
 use mathlib.Core.List.{List}
 use mathlib.Core.Option.{Option, none, some}
 use Prim.Native.Nat.{ℕ, zero, suc, _+_, _*_, _/_, _≤_, _<_}
@@ -12,8 +12,9 @@ use native.Mathlib.Omega.{arith}
 use lib.Dec.{eqb}
 use lib.ListN.{getD}
 use borrow.Author.Tests.{eqb-true, eqb-false}
+use Rattle.rule.specs.Gates.{isOpen}
 use Rattle.rule.specs.Port.{Frame}
-use Rattle.rule.specs.Choice.{duration, qualifies, highest, frameFor, chosen}
+use Rattle.rule.specs.Choice.{duration, staysOpen, qualifies, highest, frameFor, chosen}
 use Rattle.rule.specs.Acts.{isSome}
 use Rattle.rule.specs.Orders.{speedOffered}
 
@@ -48,24 +49,42 @@ Chosen heads speed t q none = (j : ℕ) → j < 8 → q j ≡ false
 Chosen heads speed t q (some f) =
     Highest q 8 (some (f .class)) × (f ≡ record { class = f .class; start = t; end = t + duration (getD heads (f .class) 0) speed; counted = false })
 
-module _ (heads : List ℕ) (speed t octet : ℕ) (g : ℕ → ℕ) where
-  pub chosen-is : Chosen heads speed t (qualifies heads speed t octet g) (chosen heads speed t octet g)
+module _ (heads : List ℕ) (speed t : ℕ) (g : ℕ → ℕ) where
+  pub chosen-is : Chosen heads speed t (qualifies heads speed t g) (chosen heads speed t g)
   unfolding chosen frameFor
-  chosen-is = go (highest (qualifies heads speed t octet g) 8) (highest-is (qualifies heads speed t octet g) 8)
+  chosen-is = go (highest (qualifies heads speed t g) 8) (highest-is (qualifies heads speed t g) 8)
     where
-      go : (r : Option ℕ) → Highest (qualifies heads speed t octet g) 8 r → Chosen heads speed t (qualifies heads speed t octet g) (frameFor heads speed t r)
+      go : (r : Option ℕ) → Highest (qualifies heads speed t g) 8 r → Chosen heads speed t (qualifies heads speed t g) (frameFor heads speed t r)
       go none h = h
       go (some k) h = (h, refl)
 
   -- no frame is chosen exactly if no class qualifies
-  pub chosen-none : (isSome (chosen heads speed t octet g) ≡ false) ↔ ((j : ℕ) → j < 8 → qualifies heads speed t octet g j ≡ false)
-  chosen-none = go (chosen heads speed t octet g) chosen-is
+  pub chosen-none : (isSome (chosen heads speed t g) ≡ false) ↔ ((j : ℕ) → j < 8 → qualifies heads speed t g j ≡ false)
+  chosen-none = go (chosen heads speed t g) chosen-is
     where
-      go : (r : Option Frame) → Chosen heads speed t (qualifies heads speed t octet g) r
-          → (isSome r ≡ false) ↔ ((j : ℕ) → j < 8 → qualifies heads speed t octet g j ≡ false)
+      go : (r : Option Frame) → Chosen heads speed t (qualifies heads speed t g) r
+          → (isSome r ≡ false) ↔ ((j : ℕ) → j < 8 → qualifies heads speed t g j ≡ false)
       go none h = (λ _. h, λ _. refl)
       go (some f) h =
           (λ e. absurd (true≢false e), λ k. absurd (true≢false (sym (h .0 .1 .0) ∙ k (f .class) (h .0 .0))))
+
+-- what is shown from t on decides
+
+pub stays-cong : (g g′ : ℕ → ℕ) (k t n : ℕ) → ((u : ℕ) → t ≤ u → g u ≡ g′ u) → staysOpen g k t n ≡ staysOpen g′ k t n
+unfolding staysOpen
+stays-cong g g′ k t zero h = refl
+stays-cong g g′ k t (suc n) h = ap₂ (λ o b. isOpen o k && b) (h t (omega arith)) (stays-cong g g′ k (suc t) n (λ u l. h u (omega arith)))
+
+pub highest-same : (p q : ℕ → Bool) (n : ℕ) → ((k : ℕ) → k < n → p k ≡ q k) → highest p n ≡ highest q n
+unfolding highest
+highest-same p q zero f = refl
+highest-same p q (suc n) f = ap₂ (λ b r. cond b (some n) r) (f n (omega arith)) (highest-same p q n (λ k h. f k (omega arith)))
+
+pub chosen-same : (heads : List ℕ) (speed t : ℕ) (g g′ : ℕ → ℕ) → ((u : ℕ) → t ≤ u → g u ≡ g′ u) → chosen heads speed t g ≡ chosen heads speed t g′
+unfolding chosen qualifies
+chosen-same heads speed t g g′ h =
+    ap (frameFor heads speed t)
+    (highest-same _ _ 8 (λ k l. ap (λ b. not (eqb (getD heads k 0) 0) && b) (stays-cong g g′ k t (duration (getD heads k 0) speed) h)))
 
 -- what holds at each of the three speeds holds at every speed that is offered
 pub by-speed : (P : ℕ → Type 0) → P 10 → P 100 → P 1_000 → (v : ℕ) → speedOffered v ≡ true → P v

@@ -26,16 +26,6 @@ pub last-start : (f : Config) (a P : ℕ) → f .start + max ((a - f .start) / f
 unfolding startNo lastNo cycleNo
 last-start f a P = ap₂ (λ x y. f .start + max x y * f .cycle) (add-one ((a - f .start) / f .cycle)) (sym (first-pred f (P - f .extension)))
 
-times-max : (c x y b d : ℕ) → x * c ≤ b → y * c ≤ d → max x y * c ≤ max b d
-times-max c x y b d h k = go (leb x y) refl
-  where
-    go : (q : Bool) → leb x y ≡ q → max x y * c ≤ max b d
-    go true e = let l = leb-true x y e in let z : max x y ≡ y = omega arith in rw z (omega arith)
-    go false e = let l = leb-false x y e in let z : max x y ≡ x = omega arith in rw z (omega arith)
-
-pub last-fits : (c u v : ℕ) → max (u / c + 1) (v / c) * c ≤ max (u + c) v
-last-fits c u v = times-max c (u / c + 1) (v / c) (u + c) v (omega (arith, div-mul-le-self u c)) (div-mul-le-self v c)
-
 pub plain-start : (f : Config) (t : ℕ) → f .start + (t - f .start) / f .cycle * f .cycle ≡ plainStart f t
 unfolding plainStart startNo cycleNo
 plain-start f t = refl

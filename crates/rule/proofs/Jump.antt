@@ -1,7 +1,7 @@
 -- n ticks at once, the form that a program computes, is what the ticks come to: of a timetable (`ticks-due`) and of a port (`ticks-jump`). In order: nothing
 -- overdue; what falls due on the way; a frame that meets a closed gate; the frame and the counters; the jump.
 -- Assumes nothing.
-use mathlib.Core.Path.{_≡_, refl, ap, ap₂, sym, _∙_}
+use mathlib.Core.Path.{_≡_, refl, ap, sym, _∙_}
 use mathlib.Core.Bool.{Bool, true, false, cond, not, _&&_}
 use mathlib.Core.List.{List}
 use mathlib.Core.Option.{Option, none, some}
@@ -20,6 +20,7 @@ use Rattle.rule.specs.Machine.{ticks}
 use Rattle.rule.specs.Machines.{timetableMachine, machine}
 use Rattle.rule.specs.Frames.{meetsClosed}
 use Rattle.rule.proofs.Shown.{shown-tick}
+use Rattle.rule.proofs.Choice.{stays-cong}
 
 -- the frame is forgotten no sooner than its last octet is out
 pub last-forgotten : (f : Frame) → lastOctetAt f ≤ forgottenAt f
@@ -120,11 +121,6 @@ ticks-due zero p h = sym (due-now p h)
 ticks-due (suc n) p h = ticks-due n (tick p) (unfold tick in wait-past (suc (p .clock)) (p .waiting)) ∙ due-tick n p
 
 -- a frame that meets a closed gate
-
-stays-cong : (g g′ : ℕ → ℕ) (k t n : ℕ) → ((u : ℕ) → t ≤ u → g u ≡ g′ u) → staysOpen g k t n ≡ staysOpen g′ k t n
-unfolding staysOpen
-stays-cong g g′ k t zero h = refl
-stays-cong g g′ k t (suc n) h = ap₂ (λ o b. isOpen o k && b) (h t (omega arith)) (stays-cong g g′ k (suc t) n (λ u l. h u (omega arith)))
 
 module _ (g : ℕ → ℕ) (c : ℕ) (f : Frame) where
   pub closed-none : meetsClosed g c 0 f ≡ false

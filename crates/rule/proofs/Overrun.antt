@@ -15,17 +15,18 @@ use lib.ListN.{length, getD, length-set, getD-replicate}
 use lib.Seq.{getD-set-same, getD-set-other}
 use borrow.Author.Tests.{leb-true, ltb-true, ltb-false, le-ltb, eqb-true, eqb-false}
 use Rattle.rule.specs.Gates.{isOpen}
-use Rattle.rule.specs.Timetable.{raise, octetUnder, shownNow, tick}
+use Rattle.rule.specs.Timetable.{raise, shown, shownNow, tick}
 use Rattle.rule.specs.Port.{Port, Frame, lastOctetAt, forgottenAt, frameAt, overran, marked, counted, portTick, newPort}
-use Rattle.rule.specs.Choice.{duration, lookAhead, qualifies, highest, frameFor, chosen}
+use Rattle.rule.specs.Choice.{duration, qualifies, highest, frameFor, chosen}
 use Rattle.rule.specs.Acts.{Act, gates, transmit, performed, perform}
 use Rattle.rule.specs.Orders.{acceptsGates, accepts}
 use Rattle.rule.specs.Machine.{ticks, Call, step, attempt, Outcome, run, elapsed}
 use Rattle.rule.specs.Machines.{machine}
-use Rattle.rule.specs.Frames.{PortHistory, gateActs, octetOf, ruleAhead, frameBegun, shut, shutLater, bit, overrunOf, ruleOverruns}
+use Rattle.rule.specs.Frames.{PortHistory, gateActs, octetOf, frameBegun, shut, shutLater, bit, overrunOf, ruleOverruns}
 use Rattle.rule.proofs.Cut.{cases, clock-ticks, Timely, timely-mono, run-timely}
 use Rattle.rule.proofs.Laws.{clock-perform, lawful}
 use Rattle.rule.proofs.Orders.{transmit-passed}
+use Rattle.rule.proofs.Choice.{chosen-same}
 use Rattle.rule.proofs.Jump.{last-forgotten, none-of, closed-none, closed-over, closed-now, closed-later}
 use Rattle.rule.proofs.Track.{Tracks, raise-mod, tracks-tick, tracks-shown, tracks-perform, tracks-new}
 
@@ -49,10 +50,7 @@ tracks-act s₀ h p (transmit heads speed) e k = k
 -- the port chooses what the rule chooses
 pub chosen-by : (s₀ : ℕ) (h : PortHistory) (p : Port) (hs : List ℕ) (v : ℕ) → Tracks s₀ (gateActs h) (p .gates)
     → performed (transmit hs v) p .frame ≡ frameBegun s₀ h (p .gates .clock) (transmit hs v)
-unfolding shownNow lookAhead ruleAhead
-chosen-by s₀ h p hs v t =
-    let c : ℕ = p .gates .clock in
-    λ i. chosen hs v c (tracks-shown t c (omega arith) i) (λ u. octetUnder (t .standing i) (t .operating i) none u)
+chosen-by s₀ h p hs v t = chosen-same hs v (p .gates .clock) (shown (p .gates)) (octetOf s₀ h) (tracks-shown t)
 
 -- a frame and the later instants
 
@@ -305,7 +303,7 @@ kept-perform s₀ k h l e sum p (gates a) acc t x =
 kept-perform s₀ k h l e sum p (transmit hs v) acc t x =
     let c : ℕ = p .gates .clock in
     let g : Act = transmit hs v in
-    let q : ℕ → Bool = qualifies hs v c (shownNow (p .gates)) (lookAhead (p .gates)) in
+    let q : ℕ → Bool = qualifies hs v c (shown (p .gates)) in
     let z : pending s₀ k h c ((c, g) ∷ l) e (p .frame) ≡ 0 = ap (pending s₀ k h c ((c, g) ∷ l) e) (transmit-passed hs v p acc .none-sent) in
     let y = pending-begun s₀ k ((c, g) ∷ h) c l e hs v (highest q 8) ∙ ap (overrunOf s₀ k ((c, g) ∷ h) c l e) (chosen-by s₀ h p hs v t) in
     tested-kept s₀ k h ((c, g) ∷ h) ((c, g) ∷ l) l e sum (sum + overrunOf s₀ k ((c, g) ∷ h) c l e (frameBegun s₀ h c g)) p c (perform g p)

@@ -59,10 +59,6 @@ rules-inside g l period s t e r =
     let k = r .cycle in
     (omega arith, omega arith)
 
-pub rules-octet : (g : ℕ → ℕ) (l : List Entry) (period s t e : ℕ) → t < e → Rules g l period s t e → g t ≡ octetAt l (t - s)
-unfolding plainOctet
-rules-octet g l period s t e h r = r .all t (omega arith) h ∙ (λ i. octetAt (r .list i) (t - r .runs i))
-
 -- the first cycle
 first-start : (f : Config) → Valid f → (t : ℕ) → f .start ≤ t → t < f .start + f .cycle → plainStart f t ≡ f .start
 first-start f pos t a b =

@@ -5,7 +5,7 @@ use mathlib.Core.Path.{_≡_, refl, sym, _∙_, subst⁻¹, subst₂}
 use mathlib.Core.Bool.{Bool, true, false, cond, not, _&&_, true≢false}
 use mathlib.Core.List.{List, [], _∷_}
 use mathlib.Core.Option.{Option, none, some}
-use Prim.Native.Nat.{ℕ, zero, suc, _+_, _-_, _*_, _/_, _%_, _≤_}
+use Prim.Native.Nat.{ℕ, zero, suc, _+_, _*_, _/_, _%_, _≤_}
 use native.Mathlib.Nat.{mul-le-mul-left, div-mul-le-self, div-add-mod'}
 use native.Mathlib.Omega.{arith}
 use lib.Dec.{leb, eqb}
@@ -13,9 +13,9 @@ use lib.ListN.{length, getD}
 use borrow.Author.Tests.{leb-true, leb-false, eqb-true, not-false}
 use Rattle.rule.specs.Limits.{largestList, largestInstant, largestCycle, longestSpan, shortestFrame, longestFrame}
 use Rattle.rule.specs.Cycle.{Config, Valid, cycleOf, cycleOffered, lastNo}
-use Rattle.rule.specs.Timetable.{Timetable, Waiting, newTimetable, shownNow, operatingAt, waitingAt, due}
+use Rattle.rule.specs.Timetable.{Timetable, Waiting, newTimetable, shown, shownNow, operatingAt, waitingAt, due}
 use Rattle.rule.specs.Port.{Port, Frame, forgottenAt, newPort, frameAt, overran, marked, tested, portTick}
-use Rattle.rule.specs.Choice.{duration, lookAhead, qualifies, highest, frameFor, chosen}
+use Rattle.rule.specs.Choice.{duration, qualifies, highest, frameFor, chosen}
 use Rattle.rule.specs.Acts.{GateAct, on, off, standing, submit, performGates, Act, gates, transmit, Submission, configOf, submitted, performed, perform}
 use Rattle.rule.specs.Orders.{any, lengthOffered, headOffered, acceptsGates, accepts}
 use Rattle.rule.specs.Machine.{ticks}
@@ -200,7 +200,7 @@ performed-sound (transmit heads v) p e s =
     let c : ℕ = p .gates .clock in
     record {
       gates = s .gates;
-      frame = frame-sound c heads v (qualifies heads v c (shownNow (p .gates)) (lookAhead (p .gates))) 8 (omega arith) (r .0) (r .1)
+      frame = frame-sound c heads v (qualifies heads v c (shown (p .gates))) 8 (omega arith) (r .0) (r .1)
           (heads-short heads (k .heads-offered));
     }
 
@@ -213,10 +213,6 @@ unfolding newPort newTimetable
 sound-new t octet h = record { gates = record { clock = h; idle = λ _. (refl, refl); operating = tt; waiting = tt }; frame = tt }
 
 -- the start that `bentOctet` is computed from is the one that document 01 means
-pub config-valid : (f : Config) → SoundConfig f → Valid f
-unfolding Valid
-config-valid f s = s .some-time
-
 pub sound-last : (p : Timetable) → SoundTimetable p → (f : Config) (w : Waiting) → p .operating ≡ some f → p .waiting ≡ some w
     → (valid : Valid f) → Last f valid (w .since) (w .config .start) (lastNo f (w .since) (w .config .start))
 sound-last p s f w eo ew valid =

@@ -5,23 +5,31 @@ use mathlib.Core.Path.{_≡_, refl, ap, ap₂, sym, _∙_}
 use mathlib.Core.Bool.{Bool, true, false, cond, _&&_, true≢false}
 use mathlib.Core.List.{List, [], _∷_, reverseAux}
 use mathlib.Core.Option.{Option, none, some}
-use Prim.Native.Nat.{ℕ, zero, suc, _-_, _^_, _%_, _≤_}
+use Prim.Native.Nat.{ℕ, zero, suc, _^_, _%_, _≤_}
 use native.Mathlib.Nat.{mod-add-mod}
 use native.Mathlib.Numerals.{add-one}
 use native.Mathlib.Omega.{arith}
 use lib.Dec.{leb, ltb}
 use borrow.Author.Tests.{leb-true, le-leb}
+use Rattle.rule.specs.Cycle.{Config}
 use Rattle.rule.specs.Timetable.{Timetable, Waiting, raise, octetUnder, shown, operatingAt, waitingAt, tick, newTimetable}
 use Rattle.rule.specs.Acts.{GateAct, on, off, standing, submit, isSome, configOf, errorsAfter, submitted, performGates}
 use Rattle.rule.specs.Orders.{acceptsGates}
 use Rattle.rule.specs.Machine.{ticks, Call, step, attempt, Outcome, run, elapsed}
 use Rattle.rule.specs.Machines.{timetableMachine}
 use Rattle.rule.specs.History.{History, markOf, standingOf, submissionsOf, octetBy, ruleOctet, operates, ruleErrors}
-use Rattle.rule.specs.Frames.{newest, operatingOf}
 use Rattle.rule.proofs.Cut.{cases}
 use Rattle.rule.proofs.Orders.{submit-passed}
 
--- what waits at t, by the submissions
+-- what operates and what waits at t, by the submissions: the newest operates if its change instant has come, else the one before it does
+
+newest : List Waiting → Option Config
+newest [] = none
+newest (w ∷ l) = some (w .config)
+
+pub operatingOf : List Waiting → ℕ → Option Config
+operatingOf [] t = none
+operatingOf (w ∷ l) t = cond (leb (w .config .start) t) (some (w .config)) (newest l)
 
 pub waitingOf : List Waiting → ℕ → Option Waiting
 waitingOf [] t = none

@@ -9,9 +9,9 @@ use Prim.Native.Nat.{ℕ}
 use lib.Dec.{ltb}
 use Rattle.rule.specs.Entries.{Entry}
 use Rattle.rule.specs.Cycle.{Config, cycleOf, startingAt, changeInstant}
-use Rattle.rule.specs.Timetable.{Timetable, Waiting, raise, shownNow, operatingAt, waitingAt}
+use Rattle.rule.specs.Timetable.{Timetable, Waiting, raise, shown, operatingAt, waitingAt}
 use Rattle.rule.specs.Port.{Port, tested}
-use Rattle.rule.specs.Choice.{lookAhead, chosen}
+use Rattle.rule.specs.Choice.{chosen}
 
 -- what is submitted: the cycle in seconds, the extension in ns, the base time
 pub record Submission : Type 0 where
@@ -72,7 +72,7 @@ abbrev pub performed : Act → Port → Port
 performed (gates a) p = record { gates = performGates a (p .gates); frame = p .frame; overruns = p .overruns }
 performed (transmit heads speed) p = record {
   gates = p .gates;
-  frame = chosen heads speed (p .gates .clock) (shownNow (p .gates)) (lookAhead (p .gates));
+  frame = chosen heads speed (p .gates .clock) (shown (p .gates));
   overruns = p .overruns;
 }
 

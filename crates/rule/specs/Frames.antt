@@ -1,18 +1,16 @@
 -- Document 01's rule for the frames of a port, read off the accepted acts alone (demand 3): the frame that a transmit begins, and TransmissionOverrun, the
 -- frames that met a closed gate. A history has the newest act first; the acts that follow it stand in a list with the oldest first.
 -- Assumes nothing.
-use mathlib.Core.Bool.{Bool, true, false, cond, not, _&&_, _||_}
+use mathlib.Core.Bool.{Bool, true, false, not, _&&_, _||_}
 use mathlib.Core.List.{List, [], _∷_}
 use mathlib.Core.Option.{Option, none, some}
 use Prim.Native.Nat.{ℕ, suc, _+_, _-_, min}
-use lib.Dec.{leb, ltb, eqb}
+use lib.Dec.{ltb, eqb}
 use Rattle.rule.specs.Gates.{isOpen}
-use Rattle.rule.specs.Cycle.{Config}
-use Rattle.rule.specs.Timetable.{Waiting, octetUnder}
 use Rattle.rule.specs.Port.{Frame, lastOctetAt}
 use Rattle.rule.specs.Choice.{staysOpen, chosen}
 use Rattle.rule.specs.Acts.{GateAct, Act, gates, transmit}
-use Rattle.rule.specs.History.{standingOf, submissionsOf, ruleOctet}
+use Rattle.rule.specs.History.{ruleOctet}
 
 abbrev pub PortHistory : Type 0
 PortHistory = List (ℕ × Act)
@@ -30,22 +28,10 @@ gateActs (x ∷ l) = gateAct (x .0) (x .1) (gateActs l)
 abbrev pub octetOf : ℕ → PortHistory → ℕ → ℕ
 octetOf s₀ h t = ruleOctet s₀ (gateActs h) t
 
--- what operates at t: the newest submission if its change instant has come, else the one before it
-unfoldable pub newest : List Waiting → Option Config
-newest [] = none
-newest (w ∷ l) = some (w .config)
-
-unfoldable pub operatingOf : List Waiting → ℕ → Option Config
-operatingOf [] t = none
-operatingOf (w ∷ l) t = cond (leb (w .config .start) t) (some (w .config)) (newest l)
-
-unfoldable pub ruleAhead : ℕ → PortHistory → ℕ → ℕ → ℕ
-ruleAhead s₀ h t u = octetUnder (standingOf s₀ (gateActs h)) (operatingOf (submissionsOf (gateActs h)) t) none u
-
 -- the frame that an act at t begins
 abbrev pub frameBegun : ℕ → PortHistory → ℕ → Act → Option Frame
 frameBegun s₀ h t (gates a) = none
-frameBegun s₀ h t (transmit heads speed) = chosen heads speed t (octetOf s₀ h t) (ruleAhead s₀ h t)
+frameBegun s₀ h t (transmit heads speed) = chosen heads speed t (octetOf s₀ h)
 
 -- the frame's gate is closed in g at one of the n instants after lo that come before its last octet is out
 unfoldable pub meetsClosed : (ℕ → ℕ) → ℕ → ℕ → Frame → Bool

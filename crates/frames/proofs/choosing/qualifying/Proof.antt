@@ -1,4 +1,4 @@
--- `frames::choosing::qualifying` meets its contract: of the classes that have a frame and an open gate those whose frames end by the closings of their gates.
+-- `frames::choosing::qualifying` meets its contract: of the classes that have a frame those whose frames end by the closings of their gates.
 -- Assumes nothing.
 use borrow.Author.Needs.{needs}
 use mathlib.Core.Path.{ap}
@@ -27,10 +27,6 @@ add-last : tie.Need-add-last
 add-last c =
     let h = c .before .before .before .pre .1 .1 in let d = c .duration .ensures .1 in omega (arith, h, d .1)
 
-add-closings : tie.Need-add-closings
-add-closings c =
-    let h = c .before .before .before .pre .1 .1 in omega (arith, h)
-
 closings-requires : tie.Need-closings-requires
 closings-requires c κs =
     let s = c .before .before .before in let h = s .pre .1 .1 in let d = c .duration .ensures .1 in (s .pre .0, (omega arith, omega (arith, h, d .1)))
@@ -46,7 +42,7 @@ returns c =
     let g : Timetable = record { times = a .x; octets = a .os .now; intervals = a .vs .now; newoctets = a .ws .now; newintervals = a .zs .now } in
     let h = s .pre .1 .1 in
     forms-as _ _ _
-    (qualifies-is (a .heads) (a .speed) (a .x .clock) (a .octet) (shown (decode g)) (s .pre .1 .0) _ _ _ _ (omega (arith, h))
+    (qualifies-is (a .heads) (a .speed) (a .x .clock) (shown (decode g)) (s .pre .1 .0) _ _ _ _ (omega (arith, h))
     (c .before .before .before .before .before .wanted .ensures) (c .before .before .before .before .longest .ensures)
     (ap (λ d. a .x .clock + d) (c .before .before .before .duration .ensures .0)) (c .before .before .closings .ensures))
     (c .in-time .ensures)
@@ -59,7 +55,6 @@ qualifying-spec =
     longest-requires
     duration-requires
     add-last
-    add-closings
     closings-requires
     in-time-requires
     returns)

@@ -110,7 +110,7 @@ recorded-demand t₀ s₀ h cs =
       idle = λ e k i. (unwritten (e .call) (encode (o .port)) (e .back) k i, idle-outcome (encode (o .port)) (whole-encode (o .port)) e k i);
     }
 
-new-is : (t₀ s₀ : ℕ) → t₀ ≤ largestInstant → (r : Acted) → Makes t₀ s₀ r → r .port ≡ encode (newPort t₀ s₀)
+pub new-is : (t₀ s₀ : ℕ) → t₀ ≤ largestInstant → (r : Acted) → Makes t₀ s₀ r → r .port ≡ encode (newPort t₀ s₀)
 unfolding newOrder
 new-is t₀ s₀ h r k = k .port ∙ rw (le-ltb largestInstant t₀ h)
 

@@ -4,4 +4,5 @@ pub mod Given
 pub mod Idle
 pub mod Demand3
 pub mod Steps
+pub mod Undisturbed
 pub mod Unique

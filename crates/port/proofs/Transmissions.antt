@@ -1,23 +1,17 @@
 -- Transmit on a record: what crate `frames` decides is what the act does, and nothing but the frame changes.
 -- Assumes nothing.
 use mathlib.Core.Path.{_≡_, refl, ap, sym, _∙_}
-use mathlib.Core.Bool.{Bool, true, false, cond, not, _&&_, true≢false}
+use mathlib.Core.Bool.{false, cond}
 use mathlib.Core.List.{List}
 use mathlib.Core.Option.{Option, none, some}
-use Prim.Native.Nat.{ℕ, zero, suc, _+_}
-use native.Mathlib.Omega.{arith}
-use lib.Dec.{eqb, ltb}
-use lib.ListN.{getD}
-use borrow.Author.Tests.{le-ltb}
-use Rattle.rule.specs.Gates.{isOpen}
+use Prim.Native.Nat.{ℕ}
 use Rattle.rule.specs.declared.Refusal.{Refusal}
 use Rattle.rule.specs.Refusals.{accepted}
 use Rattle.rule.specs.Timetable.{shown, shownNow}
 use Rattle.rule.specs.Port as model
-use Rattle.rule.specs.Choice.{duration, staysOpen, qualifies}
 use Rattle.rule.specs.Acts.{transmit, performed, perform}
-use Rattle.rule.proofs.Choice.{Chosen, chosen-is}
 use Rattle.rule.proofs.Jump.{marked-no, counted-no}
+use Rattle.rule.proofs.Undisturbed.{open-test, open-chosen}
 use Rattle.timetable.specs.Coding as timetable
 use Rattle.frames.specs.declared.Frame.{Frame}
 use Rattle.frames.specs.declared.Decided.{Decided}
@@ -33,37 +27,14 @@ use Rattle.port.specs.Updates.{withFrame}
 use Rattle.port.proofs.Numbers.{choice-number}
 use Rattle.port.proofs.Coding.{fine-parts}
 
--- the gate of a chosen class is open until its frame ends, so the overrun test finds nothing
-
-qualifies-open : (heads : List ℕ) (speed t : ℕ) (g : ℕ → ℕ) (k : ℕ) → qualifies heads speed t g k ≡ true
-    → ltb t (t + duration (getD heads k 0) speed) && not (isOpen (g t) k) ≡ false
-unfolding qualifies staysOpen
-qualifies-open heads speed t g k = go (not (eqb (getD heads k 0) 0)) (duration (getD heads k 0) speed)
-  where
-    go : (a : Bool) (d : ℕ) → a && staysOpen g k t d ≡ true → ltb t (t + d) && not (isOpen (g t) k) ≡ false
-    go a zero q = rw (le-ltb t (t + 0) (omega arith))
-    go true (suc d) q = late (ltb t (t + suc d)) (isOpen (g t) k) q
-      where
-        late : (x o : Bool) → o && staysOpen g k (suc t) d ≡ true → x && not o ≡ false
-        late true true q = refl
-        late true false q = sym q
-        late false o q = refl
-    go false (suc d) q = absurd (true≢false (sym q))
-
 module _ (heads : List ℕ) (speed : ℕ) (m : model.Port) where
   abbrev sends : Option model.Frame
   sends = performed (transmit heads speed) m .frame
 
+  -- the gate of a chosen class is open until its frame ends, so the overrun test finds nothing
   sends-fits : model.overran (m .gates .clock) (shownNow (m .gates)) sends ≡ false
-  unfolding shownNow model.lastOctetAt
-  sends-fits = go sends (chosen-is heads speed (m .gates .clock) (shown (m .gates)))
-    where
-      go : (o : Option model.Frame) → Chosen heads speed (m .gates .clock) (qualifies heads speed (m .gates .clock) (shown (m .gates))) o
-          → model.overran (m .gates .clock) (shownNow (m .gates)) o ≡ false
-      go none c = refl
-      go (some f) c =
-          ap (λ o. model.overran (m .gates .clock) (shownNow (m .gates)) (some o)) (c .1)
-          ∙ qualifies-open heads speed (m .gates .clock) (shown (m .gates)) (f .class) (c .0 .1 .0)
+  unfolding shownNow
+  sends-fits = open-test (shown (m .gates)) (m .gates .clock) sends (open-chosen heads speed (m .gates .clock) (shown (m .gates)))
 
   pub transmit-perform : perform (transmit heads speed) m ≡ record { gates = m .gates; frame = sends; overruns = m .overruns }
   unfolding perform

@@ -13,7 +13,6 @@ use Rattle.rule.specs.declared.Refusal.{Refusal}
 use Rattle.rule.specs.declared.Refusal.the-variants.{MalformedPort}
 use Rattle.rule.specs.Refusals.{firstOf}
 use Rattle.rule.specs.Orders.{stepOrder}
-use Rattle.rule.specs.Cycle.{Config}
 use Rattle.rule.specs.Timetable as gates
 use Rattle.rule.specs.Port as model
 use Rattle.rule.specs.Machine.{ticks, log, reach}
@@ -21,9 +20,8 @@ use Rattle.rule.specs.Machines.{machine}
 use Rattle.rule.specs.History.{changes}
 use Rattle.rule.proofs.Changes.{log-shown}
 use Rattle.rule.proofs.Gated.{log-gates, reach-gates}
-use Rattle.rule.proofs.Jump.{meets, WaitPast, FramePast, jump, ticks-jump}
+use Rattle.rule.proofs.Jump.{meets, jump, ticks-jump, wait-ahead, frame-ahead}
 use Rattle.rule.proofs.Orders.{both}
-use Rattle.rule.proofs.Soundness.{SoundWaiting, SoundFrame}
 use Rattle.rule.proofs.Walk.{reach-shown}
 use Rattle.timetable.specs.declared.Timetable.{Timetable}
 use Rattle.timetable.specs.Record.{timetableFormed}
@@ -67,16 +65,6 @@ column-fits : (f : ℕ × ℕ → ℕ) (l : List (ℕ × ℕ)) (buf now : List �
 unfolding into
 column-fits f l buf now n k e = omega (arith, ap length e ∙ length-append (map f l) (drop (length (map f l)) buf), length-map l f)
 
--- nothing is overdue in a sound port
-wait-past : (t : ℕ) (o : Option Config) (w : Option gates.Waiting) → SoundWaiting t o w → WaitPast t w
-wait-past t o none k = tt
-wait-past t o (some w) k = k .before
-
-frame-past : (t : ℕ) (f : Option model.Frame) → SoundFrame t f → FramePast t f
-unfolding model.forgottenAt
-frame-past t none k = tt
-frame-past t (some f) k = k .before
-
 -- the parts at t, if the frame met what it met on the way, are those of the port that the ticks to t come to
 module _ (p : Port) (whole : timetable.Fine (p .gates)) (sent : FineFrame (p .frame) (p .gates .times .clock)) (t : ℕ) (later : p .gates .times .clock ≤ t)
     (hit : Bool) (met : hit ≡ meets (gates.shown (timetable.decode (p .gates))) (p .gates .times .clock) (t - p .gates .times .clock) (decodeFrame (p .frame))) where
@@ -95,7 +83,7 @@ module _ (p : Port) (whole : timetable.Fine (p .gates)) (sent : FineFrame (p .fr
       b ∙ moved-is (p .gates) whole t ∙ ap (λ u. timetable.encode (gates.due u (timetable.decode (p .gates)))) z in
       let counting : v ≡ model.counted m o (p .overruns) = d ∙ counted-is hit (p .frame) c (p .overruns) sent ∙ ap (λ q. model.counted q o (p .overruns)) met in
       (λ i. record { frame = sending i; gates = showing i; overruns = counting i })
-      ∙ ap encode (sym (ticks-jump (t - c) (decode p) (wait-past c (timetable.decode (p .gates) .operating) (timetable.decode (p .gates) .waiting) (whole .sound .waiting)) (frame-past c o (sent .sound))))
+      ∙ ap encode (sym (ticks-jump (t - c) (decode p) (wait-ahead c (timetable.decode (p .gates) .operating) (timetable.decode (p .gates) .waiting) (whole .sound .waiting)) (frame-ahead c o (sent .sound))))
 
 module _ (p : Port) (goal : ℕ) (at at′ os os′ : List ℕ) (fit : Bool) (is : fit ≡ frameFormed (p .frame) (p .gates .times .clock))
     (r : Course) (t : Travels fit largestStep goal (p .gates) at at′ os os′ r) where

@@ -68,6 +68,25 @@ module _ (heads : List ℕ) (speed t : ℕ) (g : ℕ → ℕ) where
       go (some f) h =
           (λ e. absurd (true≢false e), λ k. absurd (true≢false (sym (h .0 .1 .0) ∙ k (f .class) (h .0 .0))))
 
+-- a gate stays open exactly if it is open at each instant
+
+module _ (g : ℕ → ℕ) (k : ℕ) where
+  pub stays-all : (t n : ℕ) → ((v : ℕ) → t ≤ v → v < t + n → isOpen (g v) k ≡ true) → staysOpen g k t n ≡ true
+  unfolding staysOpen
+  stays-all t zero f = refl
+  stays-all t (suc n) f = rw (f t (omega arith) (omega arith)) (stays-all (suc t) n (λ v a b. f v (omega arith) (omega arith)))
+
+  pub stays-each : (t n : ℕ) → staysOpen g k t n ≡ true → (v : ℕ) → t ≤ v → v < t + n → isOpen (g v) k ≡ true
+  unfolding staysOpen
+  stays-each t zero e v a b = absurd (omega arith)
+  stays-each t (suc n) e v a b = go (eqb v t) refl (isOpen (g t) k) refl e (λ z c. stays-each (suc t) n z v c (omega arith))
+    where
+      go : (s : Bool) → eqb v t ≡ s → (o : Bool) → isOpen (g t) k ≡ o → o && staysOpen g k (suc t) n ≡ true
+          → (staysOpen g k (suc t) n ≡ true → suc t ≤ v → isOpen (g v) k ≡ true) → isOpen (g v) k ≡ true
+      go s z false o x f = absurd (true≢false (sym x))
+      go true z true o x f = ap (λ u. isOpen (g u) k) (eqb-true v t z) ∙ o
+      go false z true o x f = let w = eqb-false v t z in f x (omega arith)
+
 -- what is shown from t on decides
 
 pub stays-cong : (g g′ : ℕ → ℕ) (k t n : ℕ) → ((u : ℕ) → t ≤ u → g u ≡ g′ u) → staysOpen g k t n ≡ staysOpen g′ k t n

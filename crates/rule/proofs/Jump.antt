@@ -19,6 +19,7 @@ use Rattle.rule.specs.Choice.{staysOpen}
 use Rattle.rule.specs.Machine.{ticks}
 use Rattle.rule.specs.Machines.{timetableMachine, machine}
 use Rattle.rule.specs.Frames.{meetsClosed}
+use Rattle.rule.proofs.Soundness.{SoundWaiting, SoundFrame}
 use Rattle.rule.proofs.Shown.{shown-tick}
 use Rattle.rule.proofs.Choice.{stays-cong}
 
@@ -35,6 +36,16 @@ WaitPast c (some w) = c < w .config .start
 abbrev pub FramePast : ℕ → Option Frame → Type 0
 FramePast c none = Unit {0}
 FramePast c (some f) = c < forgottenAt f
+
+-- nothing is overdue in a sound port
+pub wait-ahead : (t : ℕ) (o : Option Config) (w : Option Waiting) → SoundWaiting t o w → WaitPast t w
+wait-ahead t o none k = tt
+wait-ahead t o (some w) k = k .before
+
+pub frame-ahead : (t : ℕ) (f : Option Frame) → SoundFrame t f → FramePast t f
+unfolding forgottenAt
+frame-ahead t none k = tt
+frame-ahead t (some f) k = k .before
 
 pub wait-sooner : (c t : ℕ) (w : Option Waiting) → c ≤ t → WaitPast t w → WaitPast c w
 wait-sooner c t none h k = tt

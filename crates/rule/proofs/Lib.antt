@@ -17,6 +17,7 @@ pub mod Jump
 pub mod Stretch
 pub mod Overrun
 pub mod Demand3
+pub mod Undisturbed
 pub mod Regime
 pub mod Walk
 pub mod Sound

@@ -7,13 +7,13 @@ use Prim.Native.Nat.{ℕ}
 use Rattle.gatelist.specs.declared.GateList.{GateList}
 use Rattle.gatelist.specs.declared.Place.{Place}
 use Rattle.gatelist.specs.Sound.{Checked}
-use Rattle.gatelist.specs.Promises.{Widens, FindsZero, Empty, Cleans, ShowsGate, FindsPlace, FindsOctet}
+use Rattle.gatelist.specs.Promises.{Widens, FindsZero, Empty, CopiesUsed, ShowsGate, FindsPlace, FindsOctet}
 
 pub empty-unique : (x y : GateList) → Empty x → Empty y → x ≡ y
 empty-unique x y p q = p ∙ sym q
 
-pub cleaned-unique : (l x y : GateList) → Cleans l x → Cleans l y → x ≡ y
-cleaned-unique l x y p q = p ∙ sym q
+pub copied-unique : (xs : List ℕ) (n : ℕ) (x y : List ℕ) → CopiesUsed xs n x → CopiesUsed xs n y → x ≡ y
+copied-unique xs n x y p q = p ∙ sym q
 
 pub formed-unique : (l : GateList) (there x y : Bool) → Checked l there x → Checked l there y → x ≡ y
 formed-unique l there x y p q = p .found ∙ sym (q .found)

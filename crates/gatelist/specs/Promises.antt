@@ -5,21 +5,22 @@ use mathlib.Core.Path.{_≡_}
 use mathlib.Core.Bool.{Bool}
 use mathlib.Core.List.{List, []}
 use Prim.Native.Nat.{ℕ, _<_}
+use lib.ListN.{take}
 use Rattle.rule.specs.Gates.{isOpen}
 use Rattle.rule.specs.Entries.{octetAt}
 use Rattle.rule.specs.Orders.{hasZeroInterval}
 use Rattle.gatelist.specs.declared.GateList.{GateList}
 use Rattle.gatelist.specs.declared.Place.{Place}
-use Rattle.gatelist.specs.Coding.{entriesFrom, emptyList, cleanedList}
+use Rattle.gatelist.specs.Coding.{entriesFrom, emptyList, padded}
 use Rattle.gatelist.specs.Lookup.{placeAt}
 
 -- `GateList::empty`
 abbrev pub Empty : GateList → Type 0
 Empty r = r ≡ emptyList
 
--- `GateList::cleaned`
-abbrev pub Cleans : GateList → GateList → Type 0
-Cleans l r = r ≡ cleanedList l
+-- `put_octets` and `put_intervals`: of an array the first n places, the others zero
+abbrev pub CopiesUsed : List ℕ → ℕ → List ℕ → Type 0
+CopiesUsed xs n r = r ≡ padded (take n xs)
 
 -- `has_zero`, over the intervals of n entries; the octets have no part in it
 abbrev pub FindsZero : List ℕ → ℕ → Bool → Type 0

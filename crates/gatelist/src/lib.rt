@@ -5,7 +5,7 @@ ghost use Prim.Native.Nat.{_<_, min};
 ghost use lib.ListN.{length};
 ghost use Rattle.gatelist.specs.Sound.{everyBelow, placeOk, usedOk, restOk, Checked};
 ghost use Rattle.gatelist.specs.Lookup.{IntervalAt};
-ghost use Rattle.gatelist.specs.Promises.{Widens, FindsZero, Empty, Cleans, ShowsGate, FindsPlace, FindsOctet};
+ghost use Rattle.gatelist.specs.Promises.{Widens, FindsZero, Empty, CopiesUsed, ShowsGate, FindsPlace, FindsOctet};
 
 // A list: entry k has the gate octet octets[k] and the interval intervals[k] in nanoseconds, for k below len. The other places are unused.
 #[repr(C)]
@@ -129,26 +129,29 @@ impl GateList {
             len: 0,
         }
     }
+}
 
-    // The same list, with its unused places set to zero.
-    pub fn cleaned(self) -> GateList
-        ensures { λ r. ⌜ Cleans self r ⌝ }
-    {
-        let n = self.len;
-        let o = self.octets;
-        let v = self.intervals;
-        let used = at_most_max(n);
-        let mut octets = [0u8; 128];
-        let mut intervals = [0u32; 128];
-        for i in 0..used {
-            octets[i] = o[i];
-            intervals[i] = v[i];
-        }
-        GateList {
-            octets,
-            intervals,
-            len: n,
-        }
+// Writes the used octets of a list into another array, and zero into its unused places.
+pub fn put_octets(octets: &[u8; 128], len: usize, into: &mut [u8; 128])
+    ensures { λ _. ⌜ CopiesUsed (now (octets .entry)) len (now (into .exit)) ⌝ }
+{
+    sized_octets(*octets);
+    let used = at_most_max(len);
+    *into = [0u8; 128];
+    for i in 0..used {
+        into[i] = octets[i];
+    }
+}
+
+// The same of its intervals.
+pub fn put_intervals(intervals: &[u32; 128], len: usize, into: &mut [u32; 128])
+    ensures { λ _. ⌜ CopiesUsed (now (intervals .entry)) len (now (into .exit)) ⌝ }
+{
+    sized(*intervals);
+    let used = at_most_max(len);
+    *into = [0u32; 128];
+    for i in 0..used {
+        into[i] = intervals[i];
     }
 }
 
@@ -177,7 +180,7 @@ fn interval_at(intervals: &[u32; 128], i: usize) -> u64
 pub fn entry_at(intervals: &[u32; 128], len: usize, offset: u64) -> Place
     ensures { λ r. ⌜ FindsPlace (now (intervals .entry)) len offset r ⌝ }
 {
-    let mut start: u64 = 0;
+    let mut rest = offset;
     let mut i: usize = 0;
     let number = loop {
         if len <= i + 1 {
@@ -186,13 +189,14 @@ pub fn entry_at(intervals: &[u32; 128], len: usize, offset: u64) -> Place
         if i == GateList::MAX {
             break len - 1;
         }
-        let end = start + wide(intervals[i]);
-        if offset < end {
+        let interval = wide(intervals[i]);
+        if rest < interval {
             break i;
         }
-        start = end;
+        rest = rest - interval;
         i = i + 1;
     };
+    let start = offset - rest;
     let end = start + interval_at(intervals, number);
     Place { number, start, end }
 }

@@ -26,6 +26,7 @@ use Rattle.port.specs.Acts.{declines, after, Performs, refusedWith, done
 use Rattle.port.specs.Updates.{withGates}
 use Rattle.port.proofs.Numbers.{number-of}
 use Rattle.port.proofs.Coding.{decode-encode, encoded-fine}
+use Rattle.port.proofs.Overruns.{tested-none}
 
 -- an act
 
@@ -53,6 +54,11 @@ module _ (a : Act) (p : Port) where
         let d : decode q ≡ performed a (decode p) = ap decode h ∙ decode-encode (performed a (decode p)) in
         performs-by r (ap (λ (x : Acted). x .answer) l ∙ sym (rw (w, z)))
         (ap (λ (x : Acted). x .port) l ∙ ap (λ m. encode (model.tested m)) d ∙ sym (rw (w, z)))
+
+    -- with no frame being sent the overrun test finds nothing
+    pub act-quiet : (answer : Answer) → answer ≡ Done → wellFormed p ≡ true → (q .frame .present ≡ 1 → ⊥) → Performs a p (record { answer = answer; port = q })
+    act-quiet answer d w f =
+        act-done (record { answer = answer; port = q }) w (λ i. record { answer = d i; port = tested-none q act-fine f i })
 
   module _ (answer : Answer) (is : answer ≡ answerOf (declines a p)) where
     refused-not : (o : Option Refusal) (r : Refusal) → answerOf o ≡ Refused r → accepted o ≡ false

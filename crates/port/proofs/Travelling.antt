@@ -1,12 +1,14 @@
 -- Step: the travel of the port's timetable, the frame that met what it met, and the counters make the step of the port. In order: the order of refusals; a
--- step that is refused (`step-stays`); what can be read back of a travel that goes (`legible`, `holds`); the port where it ends (`step-goes`).
+-- step that is refused (`step-stays`); what can be read back of a travel that goes (`legible`, `holds`); the port where it ends (`step-goes`),
+-- also where only the clock moves (`step-still`).
 -- Assumes nothing.
 use mathlib.Core.Path.{_≡_, refl, ap, sym, _∙_, subst⁻¹}
-use mathlib.Core.Bool.{Bool, true, false, not, _&&_}
+use mathlib.Core.Bool.{Bool, true, false, not, _&&_, _||_, true≢false}
 use mathlib.Core.List.{List, _∷_, map}
 use mathlib.Core.Option.{Option, none, some}
 use Prim.Native.Nat.{ℕ, _+_, _-_, _≤_, min}
 use native.Mathlib.Omega.{arith}
+use lib.Dec.{leb}
 use lib.ListN.{length, drop, length-append, length-map}
 use Rattle.rule.specs.Limits.{largestStep}
 use Rattle.rule.specs.declared.Refusal.{Refusal}
@@ -24,9 +26,9 @@ use Rattle.rule.proofs.Jump.{meets, jump, ticks-jump, wait-ahead, frame-ahead}
 use Rattle.rule.proofs.Orders.{both}
 use Rattle.rule.proofs.Walk.{reach-shown}
 use Rattle.timetable.specs.declared.Timetable.{Timetable}
-use Rattle.timetable.specs.Record.{timetableFormed}
+use Rattle.timetable.specs.Record.{isMarked, timetableFormed}
 use Rattle.timetable.specs.Coding as timetable
-use Rattle.timetable.specs.Updates.{movedTable}
+use Rattle.timetable.specs.Updates.{withTimes, clocked, movedTable}
 use Rattle.timetable.proofs.Records.{clock-fine, moved-is}
 use Rattle.course.specs.declared.Course.{Course}
 use Rattle.course.specs.declared.Course.the-variants as course
@@ -40,9 +42,10 @@ use Rattle.port.specs.declared.Port.{Port}
 use Rattle.port.specs.declared.StepAnswer.the-variants as stepped
 use Rattle.port.specs.Record.{wellFormed}
 use Rattle.port.specs.Coding.{decode, encode}
-use Rattle.port.specs.Updates.{markedFrame, countedFor, forgottenFrame}
+use Rattle.port.specs.Updates.{withGates, markedFrame, countedFor, forgottenFrame}
 use Rattle.port.specs.Meeting.{Legible, Holds, MetOn}
 use Rattle.port.specs.Step.{stepDeclines, passes, reported, afterStep, StepsBy, Steps}
+use Rattle.port.proofs.Reading.{none-met}
 use Rattle.port.proofs.Sending.{marked-is, counted-is, forgotten-is}
 
 -- the order of refusals: the port is well formed if its timetable and its frame are
@@ -59,6 +62,10 @@ unfolding stepDeclines travelDeclines wellFormed decode
 declines-is p goal fit e =
     ap (λ b. firstOf ((not b, MalformedPort) ∷ stepOrder largestStep goal (timetable.decode (p .gates))))
     (both-ways (timetableFormed (p .gates)) (frameFormed (p .frame) (p .gates .times .clock)) ∙ ap (λ f. f && timetableFormed (p .gates)) (sym e))
+
+neither : (a b : Bool) → a || b ≡ false → (a ≡ false) × (b ≡ false)
+neither true b e = absurd (true≢false e)
+neither false b e = (refl, e)
 
 -- what was written can be read back
 column-fits : (f : ℕ × ℕ → ℕ) (l : List (ℕ × ℕ)) (buf now : List ℕ) (n : ℕ) → n ≡ length l → now ≡ into (map f l) buf → n ≤ length now
@@ -162,3 +169,11 @@ module _ (p : Port) (goal : ℕ) (at at′ os os′ : List ℕ) (fit : Bool) (is
           instants = w .instants ∙ ap (λ l. into (instantsOf l) at) told-is;
           octets = w .octets ∙ ap (λ l. into (octetsOf l) os) told-is;
         })
+
+    -- with no frame being sent and nothing falling due, only the clock moves
+    pub step-still : isMarked (p .frame .present) || (isMarked (p .gates .times .waits) && leb (p .gates .times .change) e) ≡ false
+        → Steps p goal at at′ os os′ (record { answer = stepped.Written n; port = withGates (withTimes (clocked e (p .gates .times)) (p .gates)) p })
+    step-still z =
+        let a = neither (isMarked (p .frame .present)) (isMarked (p .gates .times .waits) && leb (p .gates .times .change) e) z in
+        step-goes false (λ _. none-met (p .frame) (a .0) (gates.shown (timetable.decode (p .gates))) clock (e - clock)) (p .overruns) refl (p .frame) refl (p .frame)
+        (sym (rw (a .0))) (withTimes (clocked e (p .gates .times)) (p .gates)) (sym (rw (a .1)))

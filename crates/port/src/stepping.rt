@@ -120,6 +120,14 @@ impl Port {
                 port: p,
             },
             Course::Goes(written, end) => {
+                let due = (x.waits == 1) & (x.change <= end);
+                if !((f.present == 1) | due) {
+                    p.gates.times.clock = end;
+                    return Stepped {
+                        answer: StepAnswer::Written(written),
+                        port: p,
+                    };
+                }
                 let hit = met_on(
                     x,
                     &p.gates.octets,

@@ -4,7 +4,6 @@ ghost use Rattle.port.specs.Acts.{Performs, submission};
 use crate::Acted;
 use crate::Port;
 use crate::acts::done;
-use crate::record::well_formed;
 use gatelist::GateList;
 use rule::Answer;
 
@@ -21,10 +20,19 @@ impl Port {
         ensures { λ r. ⌜ Performs (model.gates (model.submit (submission list numerator denominator extension base))) self r ⌝ }
     {
         let x = self.gates.times;
-        let good = well_formed(self);
+        let f = self.frame;
+        let mut p = self;
+        let timed = timetable::formed(
+            x,
+            &p.gates.octets,
+            &p.gates.intervals,
+            &p.gates.newoctets,
+            &p.gates.newintervals,
+        );
+        let sent = frames::frame_formed(f, x.clock);
         let answer = submission::judged(
             x,
-            good,
+            timed & sent,
             &list.intervals,
             list.len,
             numerator,
@@ -32,12 +40,34 @@ impl Port {
             base,
         );
         if let Answer::Refused(_) = answer {
-            return Acted { answer, port: self };
+            return Acted { answer, port: p };
         }
-        let g = self.gates;
-        let gates = submission::placed(g, list, numerator, denominator, extension, base);
-        let mut p = self;
-        p.gates = gates;
-        done(p)
+        let y = submission::placed(x, list.len, numerator, denominator, extension, base);
+        p.gates.times.clock = y.clock;
+        p.gates.times.on = y.on;
+        p.gates.times.standing = y.standing;
+        p.gates.times.operates = y.operates;
+        p.gates.times.waits = y.waits;
+        p.gates.times.len = y.len;
+        p.gates.times.cycle = y.cycle;
+        p.gates.times.extension = y.extension;
+        p.gates.times.start = y.start;
+        p.gates.times.newlen = y.newlen;
+        p.gates.times.newcycle = y.newcycle;
+        p.gates.times.newextension = y.newextension;
+        p.gates.times.change = y.change;
+        p.gates.times.since = y.since;
+        p.gates.times.errors = y.errors;
+        if y.waits == 1 {
+            gatelist::put_octets(&list.octets, list.len, &mut p.gates.newoctets);
+            gatelist::put_intervals(&list.intervals, list.len, &mut p.gates.newintervals);
+        } else {
+            gatelist::put_octets(&list.octets, list.len, &mut p.gates.octets);
+            gatelist::put_intervals(&list.intervals, list.len, &mut p.gates.intervals);
+        }
+        if p.frame.present == 1 {
+            return done(p);
+        }
+        Acted { answer, port: p }
     }
 }

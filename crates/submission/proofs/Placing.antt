@@ -20,8 +20,9 @@ use Rattle.rule.proofs.ClosedForms.{change-near}
 use Rattle.rule.proofs.Orders.{both, absent, PassedSubmit, submit-passed}
 use Rattle.rule.proofs.Sound.{cycle-range}
 use Rattle.gatelist.specs.declared.GateList.{GateList}
-use Rattle.gatelist.specs.Coding.{entryOf, listOf, encodeList, Places}
+use Rattle.gatelist.specs.Coding.{entryOf, listOf, encodeList, cleanedList, Places}
 use Rattle.gatelist.proofs.Coding.{length-from, cleaned-encoded}
+use Rattle.timetable.specs.declared.Times.{Times}
 use Rattle.timetable.specs.declared.Timetable.{Timetable}
 use Rattle.timetable.specs.Record.{isMarked}
 use Rattle.timetable.specs.Coding.{oldConfig, decode, encode, Fine, changeBy}
@@ -29,7 +30,7 @@ use Rattle.timetable.proofs.Beginnings.{change-by}
 use Rattle.timetable.proofs.Coding.{mark-there}
 use Rattle.timetable.proofs.Records.{clock-fine}
 use Rattle.submission.specs.Judgement.{submissionOf}
-use Rattle.submission.specs.Placement.{errorsFor, operatingBy, waitingBy, placedBy, placedTable}
+use Rattle.submission.specs.Placement.{errorsFor, operatingBy, waitingBy, placedBy, placedTimes, listedIn}
 
 -- the record of a timetable that nothing waits in
 
@@ -40,20 +41,27 @@ module _ (x : Submission) (m : model.Timetable) (free : m .waiting ≡ none) whe
   abbrev n : ℕ
   n = errorsAfter (m .clock) x (m .operating) (m .errors)
 
-  placed-now : leb (f .start) (m .clock) ≡ true → operatingBy (encodeList (f .list)) (f .cycle) (f .extension) (f .start) n (encode m) ≡ encode (submitted x m)
+  abbrev len : ℕ
+  len = length (f .list)
+
+  -- the record with these numbers and the list
+  abbrev with : Times → Timetable
+  with y = listedIn (encodeList (f .list)) y (encode m)
+
+  placed-now : leb (f .start) (m .clock) ≡ true → with (operatingBy len (f .cycle) (f .extension) (f .start) n (encode m .times)) ≡ encode (submitted x m)
   unfolding encode submitted encodeList
   placed-now h = rw (h, free)
 
-  placed-later : leb (f .start) (m .clock) ≡ false → waitingBy (encodeList (f .list)) (f .cycle) (f .extension) (f .start) n (encode m) ≡ encode (submitted x m)
+  placed-later : leb (f .start) (m .clock) ≡ false → with (waitingBy len (f .cycle) (f .extension) (f .start) n (encode m .times)) ≡ encode (submitted x m)
   unfolding encode submitted encodeList
   placed-later h = rw h
 
-  placed-model : placedBy (encodeList (f .list)) (f .cycle) (f .extension) (f .start) n (encode m) ≡ encode (submitted x m)
+  placed-model : with (placedBy len (f .cycle) (f .extension) (f .start) n (encode m .times)) ≡ encode (submitted x m)
   unfolding encode
   placed-model = go (leb (f .start) (m .clock)) refl
     where
       go : (b : Bool) → leb (f .start) (m .clock) ≡ b
-          → cond b (operatingBy (encodeList (f .list)) (f .cycle) (f .extension) (f .start) n (encode m)) (waitingBy (encodeList (f .list)) (f .cycle) (f .extension) (f .start) n (encode m))
+          → with (cond b (operatingBy len (f .cycle) (f .extension) (f .start) n (encode m .times)) (waitingBy len (f .cycle) (f .extension) (f .start) n (encode m .times)))
           ≡ encode (submitted x m)
       go true h = placed-now h
       go false h = placed-later h
@@ -96,8 +104,9 @@ module _ (g : Timetable) (k : Fine g) (list : GateList) (u : Places list) (numer
   unfolding errorsFor errorsAfter decode
   errors-is = sym (rw (mark-there (isMarked (g .times .operates)) (oldConfig (g .times) (listOf (record { octets = g .octets; intervals = g .intervals; len = g .times .len })))))
 
-  pub placed-is : placedTable list numerator denominator extension base g ≡ encode (performGates (submit x) (decode g))
-  unfolding placedTable configOf passed
+  pub placed-is : listedIn (cleanedList list) (placedTimes (list .len) numerator denominator extension base (g .times)) g ≡ encode (performGates (submit x) (decode g))
+  unfolding placedTimes configOf passed
   placed-is =
-      (λ i. placedBy (cleaned-encoded list u few i) c extension (start-is i) (errors-is i) (sym (k .whole) i))
+      let l = length-from (entryOf (list .octets) (list .intervals)) 0 (list .len) in
+      (λ i. listedIn (cleaned-encoded list u few i) (placedBy (sym l i) c extension (start-is i) (errors-is i) (sym (k .whole) i .times)) (sym (k .whole) i))
       ∙ placed-model x (decode g) (absent (decode g .waiting) (passed .none-waits))

@@ -1,5 +1,5 @@
--- The record of a timetable after a submission, field by field: the list operates from the change instant, or waits for it. That this is the record of the
--- timetable after the act is `placed-is` of proofs/Placing.
+-- The numbers of a timetable after a submission, field by field: the list operates from the change instant, or waits for it; and the record with them. That
+-- this is the record of the timetable after the act is `placed-is` of proofs/Placing.
 -- Assumes nothing.
 use mathlib.Core.Bool.{cond, _&&_}
 use Prim.Native.Nat.{ℕ, _%_}
@@ -7,7 +7,6 @@ use lib.Dec.{leb, ltb}
 use Rattle.rule.specs.Cycle.{cycleOf}
 use Rattle.rule.specs.Timetable.{raise}
 use Rattle.gatelist.specs.declared.GateList.{GateList}
-use Rattle.gatelist.specs.Coding.{cleanedList}
 use Rattle.timetable.specs.declared.Times.{Times}
 use Rattle.timetable.specs.declared.Timetable.{Timetable}
 use Rattle.timetable.specs.Record.{isMarked}
@@ -18,60 +17,54 @@ unfoldable pub errorsFor : ℕ → Times → ℕ
 errorsFor base x = cond (ltb base (x .clock) && isMarked (x .operates)) (raise (x .errors)) (x .errors)
 
 -- it operates from start; it waits for start
-abbrev pub operatingBy : GateList → ℕ → ℕ → ℕ → ℕ → Timetable → Timetable
-operatingBy l c e s n g = record {
-  times = record {
-    clock = g .times .clock;
-    on = g .times .on;
-    standing = g .times .standing;
-    operates = 1;
-    waits = g .times .waits;
-    len = l .len;
-    cycle = c;
-    extension = e;
-    start = s;
-    newlen = g .times .newlen;
-    newcycle = g .times .newcycle;
-    newextension = g .times .newextension;
-    change = g .times .change;
-    since = g .times .since;
-    errors = n;
-  };
-  octets = l .octets;
-  intervals = l .intervals;
-  newoctets = g .newoctets;
-  newintervals = g .newintervals;
+abbrev pub operatingBy : ℕ → ℕ → ℕ → ℕ → ℕ → Times → Times
+operatingBy len c e s n x = record {
+  clock = x .clock;
+  on = x .on;
+  standing = x .standing;
+  operates = 1;
+  waits = x .waits;
+  len = len;
+  cycle = c;
+  extension = e;
+  start = s;
+  newlen = x .newlen;
+  newcycle = x .newcycle;
+  newextension = x .newextension;
+  change = x .change;
+  since = x .since;
+  errors = n;
 }
 
-abbrev pub waitingBy : GateList → ℕ → ℕ → ℕ → ℕ → Timetable → Timetable
-waitingBy l c e s n g = record {
-  times = record {
-    clock = g .times .clock;
-    on = g .times .on;
-    standing = g .times .standing;
-    operates = g .times .operates;
-    waits = 1;
-    len = g .times .len;
-    cycle = g .times .cycle;
-    extension = g .times .extension;
-    start = g .times .start;
-    newlen = l .len;
-    newcycle = c;
-    newextension = e;
-    change = s;
-    since = g .times .clock;
-    errors = n;
-  };
-  octets = g .octets;
-  intervals = g .intervals;
-  newoctets = l .octets;
-  newintervals = l .intervals;
+abbrev pub waitingBy : ℕ → ℕ → ℕ → ℕ → ℕ → Times → Times
+waitingBy len c e s n x = record {
+  clock = x .clock;
+  on = x .on;
+  standing = x .standing;
+  operates = x .operates;
+  waits = 1;
+  len = x .len;
+  cycle = x .cycle;
+  extension = x .extension;
+  start = x .start;
+  newlen = len;
+  newcycle = c;
+  newextension = e;
+  change = s;
+  since = x .clock;
+  errors = n;
 }
 
-abbrev pub placedBy : GateList → ℕ → ℕ → ℕ → ℕ → Timetable → Timetable
-placedBy l c e s n g = cond (leb s (g .times .clock)) (operatingBy l c e s n g) (waitingBy l c e s n g)
+abbrev pub placedBy : ℕ → ℕ → ℕ → ℕ → ℕ → Times → Times
+placedBy len c e s n x = cond (leb s (x .clock)) (operatingBy len c e s n x) (waitingBy len c e s n x)
 
-unfoldable pub placedTable : GateList → ℕ → ℕ → ℕ → ℕ → Timetable → Timetable
-placedTable l numerator denominator extension base g =
-    placedBy (cleanedList l) (cycleOf numerator denominator) extension
-    (changeBy (g .times .clock) base (cycleOf numerator denominator) % 18446744073709551616) (errorsFor base (g .times)) g
+unfoldable pub placedTimes : ℕ → ℕ → ℕ → ℕ → ℕ → Times → Times
+placedTimes len numerator denominator extension base x =
+    placedBy len (cycleOf numerator denominator) extension
+    (changeBy (x .clock) base (cycleOf numerator denominator) % 18446744073709551616) (errorsFor base x) x
+
+-- the record with these numbers, and with a list for what waits if that is marked, else for what operates
+abbrev pub listedIn : GateList → Times → Timetable → Timetable
+listedIn l x g =
+    cond (isMarked (x .waits)) (record { times = x; octets = g .octets; intervals = g .intervals; newoctets = l .octets; newintervals = l .intervals })
+    (record { times = x; octets = l .octets; intervals = l .intervals; newoctets = g .newoctets; newintervals = g .newintervals })

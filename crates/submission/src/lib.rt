@@ -1,15 +1,14 @@
-// A submission to a timetable: whether it is taken, and the record after it. Nothing here looks at 14: the caller says whether its record is well formed.
+// A submission to a timetable: whether it is taken, and the numbers of the record after it. Nothing here looks at 14: the caller says whether its record is well formed.
 ghost use mathlib.Core.Path.{_≡_};
 ghost use Rattle.rule.specs.Cycle.{cycleOf, cycleOffered};
 ghost use Rattle.rule.specs.Orders.{lengthOffered};
 ghost use Rattle.submission.specs.Judgement.{Judges};
-ghost use Rattle.submission.specs.Placement.{errorsFor, placedBy, placedTable};
+ghost use Rattle.submission.specs.Placement.{errorsFor, placedBy, placedTimes};
 use gatelist::GateList;
 use rule::Answer;
 use rule::Refusal;
 use rule::first;
 use timetable::Times;
-use timetable::Timetable;
 
 // The largest instant, in nanoseconds, and the longest cycle.
 const LARGEST_INSTANT: u64 = 9_000_000_000_000_000_000;
@@ -83,69 +82,49 @@ fn errors_for(x: Times, base: u64) -> u64
     x.errors
 }
 
-// The record with a list, whose unused places are 0, that operates from an instant, or waits for it.
-fn placed_by(
-    g: Timetable,
-    list: GateList,
-    cycle: u64,
-    extension: u64,
-    start: u64,
-    errors: u64,
-) -> Timetable
-    ensures { λ r. ⌜ r ≡ placedBy list cycle extension start errors g ⌝ }
+// The numbers with a list of a length that operates from an instant, or waits for it.
+fn placed_by(x: Times, len: usize, cycle: u64, extension: u64, start: u64, errors: u64) -> Times
+    ensures { λ r. ⌜ r ≡ placedBy len cycle extension start errors x ⌝ }
 {
-    let x = g.times;
-    let mut q = g;
-    let octets = list.octets;
-    let intervals = list.intervals;
     let clock = x.clock;
     if start <= clock {
-        let y = Times {
+        return Times {
             operates: 1,
-            len: list.len,
+            len,
             cycle,
             extension,
             start,
             errors,
             ..x
         };
-        q.times = y;
-        q.octets = octets;
-        q.intervals = intervals;
-        return q;
     }
-    let y = Times {
+    Times {
         waits: 1,
-        newlen: list.len,
+        newlen: len,
         newcycle: cycle,
         newextension: extension,
         change: start,
         since: clock,
         errors,
         ..x
-    };
-    q.times = y;
-    q.newoctets = octets;
-    q.newintervals = intervals;
-    q
+    }
 }
 
-// The record after a submission that is taken.
+// The numbers of a timetable after a submission that is taken, of a list of a length. The list's places belong to what waits if that is marked, else to what
+// operates.
 pub fn placed(
-    g: Timetable,
-    list: GateList,
+    x: Times,
+    len: usize,
     numerator: u32,
     denominator: u32,
     extension: u32,
     base: u64,
-) -> Timetable
-    ensures { λ r. ⌜ r ≡ placedTable list numerator denominator extension base g ⌝ }
+) -> Times
+    ensures { λ r. ⌜ r ≡ placedTimes len numerator denominator extension base x ⌝ }
 {
-    let x = g.times;
     let cycle = cycle_of(numerator, denominator);
     let start = timetable::change_instant(x.clock, base, cycle);
-    let clean = list.cleaned();
     let e = gatelist::wide(extension);
     let errors = errors_for(x, base);
-    placed_by(g, clean, cycle, e, start, errors)
+    placed_by(x, len, cycle, e, start, errors)
 }

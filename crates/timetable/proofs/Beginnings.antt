@@ -4,7 +4,7 @@ use mathlib.Core.Path.{_≡_, refl, ap, sym, _∙_}
 use mathlib.Core.Bool.{Bool, true, false, cond}
 use mathlib.Core.List.{List, []}
 use Prim.Native.Nat.{ℕ, _+_, _-_, _*_, _/_, _%_, _≤_, _<_, min, max}
-use native.Mathlib.Nat.{div-mul-le-self, zero-div, zero-mul, mul-le-mul-right, mul-lt-mul-of-pos-right, lt-of-not-le, not-le-of-lt, mod-eq-of-lt}
+use native.Mathlib.Nat.{zero-div, zero-mul, mul-le-mul-right, mul-lt-mul-of-pos-right, lt-of-not-le, not-le-of-lt, mod-eq-of-lt}
 use native.Mathlib.Omega.{arith}
 use lib.Dec.{leb, eqb}
 use borrow.Author.Tests.{le-leb, lt-leb, eqb-true, eqb-false}
@@ -25,9 +25,6 @@ module _ (start cycle t : ℕ) where
       let z : t - start ≡ 0 = omega arith in
       let y : (t - start) / cycle * cycle ≡ 0 = ap (λ n. n / cycle * cycle) z ∙ ap (λ n. n * cycle) (zero-div cycle) ∙ zero-mul cycle in
       omega arith
-
-  pub plain-upto : start ≤ t → start + (t - start) / cycle * cycle ≤ t
-  plain-upto h = omega (arith, div-mul-le-self (t - start) cycle)
 
 -- the last start
 

@@ -3,12 +3,12 @@
 use mathlib.Core.Path.{_≡_, refl, ap, subst}
 use mathlib.Core.Bool.{Bool, true, false, cond}
 use mathlib.Core.List.{List, []}
-use Prim.Native.Nat.{ℕ, _+_, _-_, _%_, _≤_, _<_}
+use Prim.Native.Nat.{ℕ, _+_, _-_, _%_, _≤_, _<_, min}
 use native.Mathlib.Nat.{mod-eq-of-lt}
 use native.Mathlib.Omega.{arith}
-use lib.Dec.{leb, eqb}
+use lib.Dec.{leb}
 use lib.ListN.{getD}
-use borrow.Author.Tests.{le-leb, lt-leb, lt-ltb, le-ltb, eq-eqb, ne-eqb, leb-true, leb-false, eqb-true, eqb-false}
+use borrow.Author.Tests.{le-leb, lt-leb, leb-true, leb-false}
 use Rattle.gatelist.specs.declared.Place.{Place}
 use Rattle.gatelist.specs.Lookup.{sumTo, placeAt}
 use Rattle.gatelist.proofs.Lookup.{Holds, number-holds}
@@ -21,28 +21,19 @@ module _ (vs : List ℕ) (n place from next : ℕ) where
   abbrev at : ℕ → Cursor
   at stop = record { place = place; from = from; stop = stop; next = next }
 
-  pub enters-past : n ≤ place → at next ≡ entered vs n place from next
-  unfolding stopAt
-  enters-past a = simp (le-leb n place a)
-
-  module _ (a : place < n) where
-    pub enters-beyond : 127 < place → at next ≡ entered vs n place from next
+  module _ (inner : ℕ) (i : inner ≡ min (n - 1) 128) where
+    pub enters-last : inner ≤ place → at next ≡ entered vs n place from next
     unfolding stopAt
-    enters-beyond b = simp (lt-leb n place a, lt-ltb 127 place b)
+    enters-last a = simp (← i, le-leb inner place a)
 
-    module _ (b : place ≤ 127) where
-      pub enters-last : n ≡ place + 1 → at next ≡ entered vs n place from next
+    module _ (a : place < inner) (left interval : ℕ) (l : left ≡ next - from) (e : interval ≡ getD vs place 0) where
+      pub enters-cut : left ≤ interval → at next ≡ entered vs n place from next
       unfolding stopAt
-      enters-last c = simp (lt-leb n place a, le-ltb 127 place b, eq-eqb n (place + 1) c)
+      enters-cut d = simp (← i, lt-leb inner place a, ← e, ← l, le-leb left interval d)
 
-      module _ (c : n ≡ place + 1 → ⊥) (left interval : ℕ) (l : left ≡ next - from) (e : interval ≡ getD vs place 0) where
-        pub enters-cut : left ≤ interval → at next ≡ entered vs n place from next
-        unfolding stopAt
-        enters-cut d = simp (lt-leb n place a, le-ltb 127 place b, ne-eqb n (place + 1) c, ← e, ← l, le-leb left interval d)
-
-        pub enters-whole : interval < left → at (from + interval) ≡ entered vs n place from next
-        unfolding stopAt
-        enters-whole d = simp (lt-leb n place a, le-ltb 127 place b, ne-eqb n (place + 1) c, ← e, ← l, lt-leb left interval d)
+      pub enters-whole : interval < left → at (from + interval) ≡ entered vs n place from next
+      unfolding stopAt
+      enters-whole d = simp (← i, lt-leb inner place a, ← e, ← l, lt-leb left interval d)
 
 module _ (vs : List ℕ) (n period : ℕ) (c r : Cursor) where
   pub advances-wrap : c .next ≤ c .stop → (after : ℕ) → after ≡ wrapped (c .next) period → r ≡ entered vs n 0 (c .next) after → r ≡ advanced vs n period c
@@ -87,22 +78,25 @@ module _ (vs : List ℕ) (n place from next : ℕ) (one : place < n) (few : n �
       (record { is = refl; after = a; upto = b; holds = c; before = d })
 
   pub enters : Enters vs n place from next (entered vs n place from next)
-  enters = go (eqb n (place + 1)) refl (leb (next - from) (getD vs place 0)) refl
+  enters = go (leb (min (n - 1) 128) place) refl (leb (next - from) (getD vs place 0)) refl
     where
-      go : (l : Bool) → eqb n (place + 1) ≡ l → (c : Bool) → leb (next - from) (getD vs place 0) ≡ c → Enters vs n place from next (entered vs n place from next)
+      go : (l : Bool) → leb (min (n - 1) 128) place ≡ l → (c : Bool) → leb (next - from) (getD vs place 0) ≡ c
+          → Enters vs n place from next (entered vs n place from next)
       go true p c q =
-          let e = eqb-true n (place + 1) p in
+          let e = leb-true (min (n - 1) 128) place p in
           within next inside (omega arith) (λ h. absurd (omega arith)) (λ h. absurd (omega arith))
-          (ap (λ (r : Cursor). r .stop) (enters-last vs n place from next one (omega arith) e))
+          (ap (λ (r : Cursor). r .stop) (enters-last vs n place from next (min (n - 1) 128) refl e))
       go false p true q =
+          let e = leb-false (min (n - 1) 128) place p in
           let k = leb-true (next - from) (getD vs place 0) q in
           within next inside (omega arith) (λ h. omega arith) (λ h. absurd (omega arith))
-          (ap (λ (r : Cursor). r .stop) (enters-cut vs n place from next one (omega arith) (eqb-false n (place + 1) p) (next - from) (getD vs place 0) refl refl k))
+          (ap (λ (r : Cursor). r .stop) (enters-cut vs n place from next (min (n - 1) 128) refl e (next - from) (getD vs place 0) refl refl k))
       go false p false q =
+          let e = leb-false (min (n - 1) 128) place p in
           let k = leb-false (next - from) (getD vs place 0) q in
-          let m : place + 1 < n = omega (arith, eqb-false n (place + 1) p) in
+          let m : place + 1 < n = omega arith in
           within (from + getD vs place 0) (omega arith) (omega arith) (λ h. omega arith) (λ h. (m, refl))
-          (ap (λ (r : Cursor). r .stop) (enters-whole vs n place from next one (omega arith) (eqb-false n (place + 1) p) (next - from) (getD vs place 0) refl refl k))
+          (ap (λ (r : Cursor). r .stop) (enters-whole vs n place from next (min (n - 1) 128) refl e (next - from) (getD vs place 0) refl refl k))
 
 -- the entry after a cursor's
 pub advances : (vs : List ℕ) (n period : ℕ) (c : Cursor) → Onward vs n period c → Advances vs n period c (advanced vs n period c)

@@ -4,9 +4,10 @@
 use mathlib.Core.Path.{_≡_}
 use mathlib.Core.Bool.{cond}
 use mathlib.Core.List.{List}
-use Prim.Native.Nat.{ℕ, _+_, _-_, _%_, _≤_, _<_}
-use lib.Dec.{leb, ltb, eqb}
+use Prim.Native.Nat.{ℕ, _+_, _-_, _%_, _≤_, _<_, min}
+use lib.Dec.{leb}
 use lib.ListN.{getD}
+use Rattle.rule.specs.Limits.{largestList}
 use Rattle.rule.specs.Cycle.{Config, plainStart}
 use Rattle.gatelist.specs.declared.Place.{Place}
 use Rattle.gatelist.specs.Lookup.{sumTo, placeAt}
@@ -15,12 +16,11 @@ use Rattle.timetable.specs.declared.cursor.Cursor.{Cursor}
 abbrev pub wrapped : ℕ → ℕ → ℕ
 wrapped a b = (a + b) % 18446744073709551616
 
--- where the entry at a place stops that begins at an instant of a cycle which ends at next
+-- where the entry at a place stops that begins at an instant of a cycle which ends at next; n - 1 of its entries, as far as the 128 places go, have another
+-- one after them
 unfoldable pub stopAt : List ℕ → ℕ → ℕ → ℕ → ℕ → ℕ
 stopAt vs n place from next =
-    cond (leb n place) next
-    (cond (ltb 127 place) next
-    (cond (eqb n (place + 1)) next (cond (leb (next - from) (getD vs place 0)) next (from + getD vs place 0))))
+    cond (leb (min (n - 1) largestList) place) next (cond (leb (next - from) (getD vs place 0)) next (from + getD vs place 0))
 
 abbrev pub entered : List ℕ → ℕ → ℕ → ℕ → ℕ → Cursor
 entered vs n place from next = record { place = place; from = from; stop = stopAt vs n place from next; next = next }

@@ -1,6 +1,7 @@
 // A cursor on the entries of a running cycle, for any numbers: an entry stops with its cycle at the latest, the last entry and every place beyond the list
 // hold to the cycle's end, and the end of a cycle is a sum modulo 2^64.
 ghost use mathlib.Core.Path.{_≡_};
+ghost use Prim.Native.Nat.{_-_, min};
 ghost use Rattle.timetable.specs.Cursor.{entered, advanced, cursorAt};
 use crate::numbers::minus;
 
@@ -22,27 +23,24 @@ pub struct Stretch {
     pub edge: u64,
 }
 
+// How many entries of a list have another one after them, as far as the 128 places go.
+fn inner_entries(len: usize) -> usize
+    ensures { λ r. ⌜ r ≡ min (len - 1) 128 ⌝ }
+{
+    if 128 < len {
+        return 128;
+    }
+    if len == 0 {
+        return 0;
+    }
+    len - 1
+}
+
 // The entry at a place, which begins at an instant.
 fn entry_from(intervals: &[u32; 128], len: usize, place: usize, from: u64, next: u64) -> Cursor
     ensures { λ r. ⌜ r ≡ entered (now (intervals .entry)) len place from next ⌝ }
 {
-    if len <= place {
-        return Cursor {
-            place,
-            from,
-            stop: next,
-            next,
-        };
-    }
-    if 127 < place {
-        return Cursor {
-            place,
-            from,
-            stop: next,
-            next,
-        };
-    }
-    if len == place + 1 {
+    if inner_entries(len) <= place {
         return Cursor {
             place,
             from,

@@ -1,4 +1,4 @@
--- `gatelist::entry_at` meets its contract: the loop's invariant is that `start` is the sum of the intervals before entry i and not past the offset; the
+-- `gatelist::entry_at` meets its contract: the loop's invariant is that what the rest lacks of the offset is the sum of the intervals before entry i; the
 -- measure is what is left of the list. Each way out of the loop knows the entry's number.
 -- Assumes nothing.
 use mathlib.Core.Path.{_≡_}
@@ -12,18 +12,18 @@ use Rattle.gatelist.proofs.Lookup.{sum-more, found-in, found-last, foun
 use Rattle.gatelist.proofs.entry_at.Statement.{statement}
 use Rattle.gatelist.proofs.entry_at.Tie as tie
 
-record Inv (intervals : List ℕ) (len offset start i : ℕ) : Type 0 where
+record Inv (intervals : List ℕ) (len offset rest i : ℕ) : Type 0 where
   within : i ≤ len - 1
   few : i ≤ 128
-  sum : start ≡ sumTo intervals i
-  small : start ≤ i * 4294967296
-  passed : start ≤ offset
+  left : rest ≤ offset
+  sum : offset - rest ≡ sumTo intervals i
+  small : offset - rest ≤ i * 4294967296
 
 abbrev Inv-loop : tie.InvT-loop
-Inv-loop intervals len offset start₀ i₀ start i = Inv intervals len offset start i
+Inv-loop intervals len offset rest₀ i₀ rest i = Inv intervals len offset rest i
 
 abbrev μ-loop : tie.MeasureT-loop
-μ-loop intervals len offset start₀ i₀ start i = 128 - i
+μ-loop intervals len offset rest₀ i₀ rest i = 128 - i
 
 loop-holds : tie.Need-loop-holds Inv-loop μ-loop
 unfolding sumTo
@@ -44,9 +44,6 @@ element-copy-out-wide c = search needs
 wide-requires : tie.Need-wide-requires Inv-loop μ-loop
 wide-requires c κs = search needs
 
-add-end : tie.Need-add-end Inv-loop μ-loop
-add-end c = search needs
-
 add-i : tie.Need-add-i Inv-loop μ-loop
 add-i c = search needs
 
@@ -60,16 +57,19 @@ loop-again c =
     record {
       within = search needs;
       few = search needs;
+      left = search needs;
       sum = omega (arith, sum-more (a .intervals .now) (l .i));
       small = search needs;
-      passed = search needs;
     }
+
+sub-start : tie.Need-sub-start Inv-loop μ-loop
+sub-start c = search needs
 
 interval-at-requires : tie.Need-interval-at-requires Inv-loop μ-loop
 interval-at-requires c κs = search needs
 
-add-end-2 : tie.Need-add-end-2 Inv-loop μ-loop
-add-end-2 c = search needs
+add-end : tie.Need-add-end Inv-loop μ-loop
+add-end c = search needs
 
 returns : tie.Need-returns Inv-loop μ-loop
 returns c =
@@ -78,10 +78,11 @@ returns c =
     let is = a .intervals .now in
     let v = c .interval-at .ensures in
     let m = c .before .if1 .number in
-    found-place is (a .len) (a .offset) m (l .start) (c .interval-at .result)
-    (⊎-elim (λ w. found-last is (a .len) (l .i) (a .offset) (l .start) m (l .inv .sum) (l .inv .passed) (omega arith) (omega arith) (omega arith))
-    (⊎-elim (λ w. found-past is (a .len) (l .i) (a .offset) (l .start) m (l .inv .sum) (l .inv .passed) (omega arith) (omega arith) (omega arith))
-    (λ w. found-in is (a .len) (l .i) (a .offset) (l .start) m (l .inv .sum) (l .inv .passed) (omega arith) (omega arith) (omega arith)))
+    let s : ℕ = a .offset - l .rest in
+    found-place is (a .len) (a .offset) m s (c .interval-at .result)
+    (⊎-elim (λ w. found-last is (a .len) (l .i) (a .offset) s m (l .inv .sum) (omega arith) (omega arith) (omega arith) (omega arith))
+    (⊎-elim (λ w. found-past is (a .len) (l .i) (a .offset) s m (l .inv .sum) (omega arith) (omega arith) (omega arith) (omega arith))
+    (λ w. found-in is (a .len) (l .i) (a .offset) s m (l .inv .sum) (omega arith) (omega arith) (omega arith) (omega arith)))
     (c .before .if1 .came))
     (v .value)
 
@@ -97,10 +98,10 @@ entry-at-spec =
     mul-wide
     element-copy-out-wide
     wide-requires
-    add-end
     add-i
     loop-less
     loop-again
+    sub-start
     interval-at-requires
-    add-end-2
+    add-end
     returns)

@@ -1,18 +1,87 @@
--- `port::Port::submit` meets its contract: refused in the order of Submit, or placed (crate `submission`), and then the overrun test.
+-- `port::Port::submit` meets its contract: refused in the order of Submit, or with the numbers that crate `submission` places and the list's places where
+-- they belong, and then the overrun test, if a frame is being sent.
 -- Assumes nothing.
 use borrow.Author.Needs.{needs}
-use mathlib.Core.Path.{_∙_}
+use mathlib.Core.Path.{_≡_, _∙_}
+use mathlib.Core.Bool.{true, _&&_}
+use mathlib.Core.Logic.{⊎-elim}
+use Rattle.rule.specs.Refusals.{answerOf}
+use Rattle.rule.specs.Acts.{Act, gates, submit, performed}
+use Rattle.rule.specs.Orders.{accepts}
 use Rattle.gatelist.specs.Coding.{Places}
-use Rattle.port.proofs.Performing.{act-refused, act-accepted, act-fine, act-done}
-use Rattle.port.proofs.Submissions.{judged-is, placed-gates}
+use Rattle.port.specs.declared.Port.{Port}
+use Rattle.port.specs.Record.{wellFormed}
+use Rattle.port.specs.Coding.{decode, encode, Fine, Checked}
+use Rattle.port.specs.Acts.{declines, submission}
+use Rattle.port.proofs.Coding.{checked}
+use Rattle.port.proofs.Performing.{act-refused, act-accepted, act-fine, act-done, act-quiet}
+use Rattle.port.proofs.Submissions.{judged-is, placed-waits, placed-operates}
 use Rattle.port.proofs.Port.submit.Statement.{statement}
 use Rattle.port.proofs.Port.submit.Tie as tie
+
+-- what comes in: the port, the list with the lengths of its arrays, and the act
+
+abbrev port-in : tie.After-x → Port
+port-in c = c .before .args .self
 
 places : (c : tie.After-x) → Places (c .before .args .t2)
 places c = record { octets = search needs; intervals = search needs }
 
-well-formed-requires : tie.Need-well-formed-requires
-well-formed-requires c κs = search needs
+abbrev act : tie.After-x → Act
+act c = let a = c .before .args in gates (submit (submission (a .t2) (a .numerator) (a .denominator) (a .extension) (a .base)))
+
+-- the checks, the judgement, what an accepted submission has passed, and the record that is made
+
+abbrev begun : tie.After-frame-formed → tie.After-x
+begun c = c .before .before .before .before .before .before .before .before
+
+abbrev judging : tie.After-judged → tie.After-frame-formed
+judging c = c .before .before .before
+
+well : (c : tie.After-frame-formed) → Checked (port-in (begun c)) (c .before .formed .result && c .frame-formed .result)
+well c = checked (port-in (begun c)) _ _ (c .before .formed .ensures) (c .frame-formed .ensures)
+
+is-judged : (c : tie.After-judged) → c .judged .result ≡ answerOf (declines (act (begun (judging c))) (port-in (begun (judging c))))
+is-judged c =
+    let a = begun (judging c) .before .args in
+    judged-is (a .self) (a .t2) (a .numerator) (a .denominator) (a .extension) (a .base) _ (c .judged .result) (well (judging c) .is) (c .judged .ensures)
+
+-- what an accepted one has passed
+module _ (c : tie.After-enum-told2) where
+  abbrev judgement : tie.After-judged
+  judgement = c .before .before
+
+  abbrev inside : tie.After-x
+  inside = begun (judging judgement)
+
+  passed : (wellFormed (port-in inside) ≡ true) × (accepts (act inside) (decode (port-in inside)) ≡ true)
+  passed = act-accepted _ (port-in inside) _ (is-judged judgement) (c .enum-told2 .given .1)
+
+  fine-in : Fine (port-in inside)
+  fine-in = let w = well (judging judgement) in w .fine (w .is ∙ passed .0)
+
+-- the record that is made
+abbrev taken : tie.Joined1 → tie.After-enum-told2
+taken c = c .before .before .before .before .before .before .before .before .before .before .before .before .before .before .before .before .before .before
+
+made : (c : tie.Joined1) → c .if1 .p ≡ encode (performed (act (inside (taken c))) (decode (port-in (inside (taken c)))))
+made c =
+    let t = taken c in
+    let x = inside t in
+    let a = x .before .args in
+    let y = c .before .before .before .before .before .before .before .before .before .before .before .before .before .before .before .before .before .placed in
+    ⊎-elim
+    (λ w. placed-waits (a .self) (fine-in t) (a .t2) (places x) (a .numerator) (a .denominator) (a .extension) (a .base) (passed t .1) (y .result) (y .ensures)
+    _ _ (w .4 .ensures) (w .8 .ensures) (c .if1 .p) (w .0 .taken) (w .9))
+    (λ w. placed-operates (a .self) (fine-in t) (a .t2) (places x) (a .numerator) (a .denominator) (a .extension) (a .base) (passed t .1) (y .result) (y .ensures)
+    _ _ (w .4 .ensures) (w .8 .ensures) (c .if1 .p) (w .0 .left) (w .9))
+    (c .if1 .came)
+
+formed-requires : tie.Need-formed-requires
+formed-requires c κs = search needs
+
+frame-formed-requires : tie.Need-frame-formed-requires
+frame-formed-requires c κs = search needs
 
 judged-requires : tie.Need-judged-requires
 judged-requires c κs = search needs
@@ -21,11 +90,7 @@ enum-told : tie.Need-enum-told
 enum-told c = search needs
 
 returns : tie.Need-returns
-returns c =
-    let j = c .before .before in
-    let w = j .before .before .before in
-    let a = w .before .before .args in
-    act-refused _ (a .self) _ (judged-is (a .self) (a .t2) (a .numerator) (a .denominator) (a .extension) (a .base) _ (j .judged .result) (w .well-formed .ensures .is) (j .judged .ensures)) _ (c .enum-told .given .1)
+returns c = let j = c .before .before in act-refused _ (port-in (begun (judging j))) _ (is-judged j) _ (c .enum-told .given .1)
 
 enum-told-2 : tie.Need-enum-told-2
 enum-told-2 c = search needs
@@ -33,35 +98,51 @@ enum-told-2 c = search needs
 placed-requires : tie.Need-placed-requires
 placed-requires c κs = search needs
 
+put-octets-requires : tie.Need-put-octets-requires
+put-octets-requires c κs = search needs
+
+put-intervals-requires : tie.Need-put-intervals-requires
+put-intervals-requires c κs = search needs
+
+put-octets-requires-2 : tie.Need-put-octets-requires-2
+put-octets-requires-2 c κs = search needs
+
+put-intervals-requires-2 : tie.Need-put-intervals-requires-2
+put-intervals-requires-2 c κs = search needs
+
 done-requires : tie.Need-done-requires
 done-requires c κs =
-    let j = c .before .before .before .before in
-    let w = j .before .before .before in
-    let a = w .before .before .args in
-    let i = judged-is (a .self) (a .t2) (a .numerator) (a .denominator) (a .extension) (a .base) _ (j .judged .result) (w .well-formed .ensures .is) (j .judged .ensures) in
-    let z = act-accepted _ (a .self) _ i (c .before .before .enum-told2 .given .1) in
-    let k = w .well-formed .ensures .fine (w .well-formed .ensures .is ∙ z .0) in
-    act-fine _ (a .self) k (z .1) _ (placed-gates (a .self) k (a .t2) (places (w .before)) (a .numerator) (a .denominator) (a .extension) (a .base) (z .1) _ (c .placed .ensures))
+    let j = c .before in
+    let t = taken j in
+    act-fine _ (port-in (inside t)) (fine-in t) (passed t .1) _ (made j)
 
 returns-2 : tie.Need-returns-2
 returns-2 c =
-    let j = c .before .before .before .before .before in
-    let w = j .before .before .before in
-    let a = w .before .before .args in
-    let i = judged-is (a .self) (a .t2) (a .numerator) (a .denominator) (a .extension) (a .base) _ (j .judged .result) (w .well-formed .ensures .is) (j .judged .ensures) in
-    let z = act-accepted _ (a .self) _ i (c .before .before .before .enum-told2 .given .1) in
-    let k = w .well-formed .ensures .fine (w .well-formed .ensures .is ∙ z .0) in
-    act-done _ (a .self) k (z .1) _ (placed-gates (a .self) k (a .t2) (places (w .before)) (a .numerator) (a .denominator) (a .extension) (a .base) (z .1) _ (c .before .placed .ensures)) _ (z .0) (c .done .ensures)
+    let j = c .before .before in
+    let t = taken j in
+    act-done _ (port-in (inside t)) (fine-in t) (passed t .1) _ (made j) _ (passed t .0) (c .done .ensures)
+
+returns-3 : tie.Need-returns-3
+returns-3 c =
+    let j = c .before in
+    let t = taken j in
+    act-quiet _ (port-in (inside t)) (fine-in t) (passed t .1) _ (made j) _ (t .enum-told2 .given .1) (passed t .0) (c .if2 .left)
 
 pub submit-spec : {M : Type 1} → statement M
 submit-spec =
     tie.close
     (tie.spec
-    well-formed-requires
+    formed-requires
+    frame-formed-requires
     judged-requires
     enum-told
     returns
     enum-told-2
     placed-requires
+    put-octets-requires
+    put-intervals-requires
+    put-octets-requires-2
+    put-intervals-requires-2
     done-requires
-    returns-2)
+    returns-2
+    returns-3)

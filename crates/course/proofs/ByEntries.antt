@@ -15,86 +15,33 @@ use Rattle.gatelist.specs.Coding.{entriesFrom}
 use Rattle.gatelist.proofs.Lookup.{number-holds, number-octet}
 use Rattle.course.specs.declared.stretch.Walk.{Walk}
 use Rattle.timetable.specs.declared.cursor.Cursor.{Cursor}
-use Rattle.course.specs.declared.stretch.Stretch.{Stretch}
+use Rattle.timetable.specs.declared.cursor.Stretch.{Stretch}
 use Rattle.course.specs.Journey.{Journey, WrittenUpTo, WalkOutcome, PassPromise}
-use Rattle.timetable.specs.Cursor.{cursorAt, advanced, Enters, Placed, Points, Advances}
-use Rattle.course.specs.Stretch.{Walkable, CyclesShown, Runs, ListPromise, Uniform, Safe, Keeps}
-use Rattle.timetable.proofs.Cursors.{cursor-placed, advances}
-use Rattle.timetable.proofs.Pointing.{points-octet, points-more, points-wrap}
+use Rattle.timetable.specs.Cursor.{cursorAt, Placed, Points, Advances}
+use Rattle.course.specs.Stretch.{Reportable, CyclesShown, ListPromise, Uniform, Keeps}
+use Rattle.timetable.proofs.Pointing.{points-octet}
+use Rattle.timetable.proofs.Stretches.{stretch-cursor, safe-start, points-start, from-stop, safe-next, points-next}
 
--- the first cursor is safe, and points into the running cycle
-module _ (vs : List ℕ) (s : Stretch) (h : Walkable vs s) (c : Cursor) (is : c ≡ cursorAt vs (s .len) (s .period) (s .base) (s .from)) where
-  start-from : c .from ≡ s .from
-  unfolding cursorAt
-  start-from = ap (λ (q : Cursor). q .from) is
+-- the first cursor, from which the walk to the edge is the walk of the stretch
+module _ (vs : List ℕ) (s : Stretch) (h : Reportable vs s) (c : Cursor) (is : c ≡ cursorAt vs (s .len) (s .period) (s .base) (s .from)) where
+  begins : (c .from ≡ s .from) × Placed vs (s .len) (s .base) (s .base + s .period) c
+  begins = stretch-cursor vs s (h .walkable) c is
 
-  start-placed : Placed vs (s .len) (s .base) (s .base + s .period) c
-  start-placed =
-      let b = h .begun in
-      subst⁻¹ (Placed vs (s .len) (s .base) (s .base + s .period)) is
-      (cursor-placed vs (s .len) (s .period) (s .base) (s .from) (h .some) b (h .ahead) (omega (arith, h .before, h .near, h .short)))
-
-  pub safe-start : Safe (s .len) (s .period) (s .edge) c
-  safe-start =
-      let p = start-placed in
-      let e = start-from in
-      let a = p .ends in
-      let u = p .upto in
-      record {
-        one = p .one;
-        first = omega (arith, h .first);
-        before = omega (arith, h .before);
-        after = p .after;
-        upto = omega arith;
-        near = omega (arith, h .begun);
-        more = λ z. p .before (omega arith) .0;
-      }
-
-  points-start : (f : Config) → f .cycle ≡ s .period → Runs f s → Points f vs (s .len) c
-  points-start f q r = record {
-    started = rw start-from (r .started);
-    placed = subst⁻¹ (λ b. Placed vs (s .len) b (b + f .cycle) c) (ap (plainStart f) start-from ∙ r .base)
-        (subst⁻¹ (λ d. Placed vs (s .len) (s .base) (s .base + d) c) q start-placed);
+  pub keeps-start : (os : List ℕ) (w : Walk) (at cs : List ℕ) → Keeps os vs (s .len) (s .period) (s .edge) c w at cs c w at cs
+  keeps-start os w at cs = let e = begins .0 in record {
+    later = omega arith;
+    first = omega (arith, h .first);
+    safe = safe-start vs s (h .walkable) c e (begins .1);
+    walked = λ j f y p d. (p, d);
   }
 
-  -- a walk from it to the edge is the walk of the stretch
   pub walks-list : (os : List ℕ) (w : Walk) (at cs : List ℕ) (r : Walk) (at′ cs′ : List ℕ)
       → ((j : Journey) (f : Config) → CyclesShown j f os vs (s .len) (s .period) (c .from) (s .edge) → Points f vs (s .len) c
       → WrittenUpTo j (c .from - 1) (w .octet) (w .written) at cs → WalkOutcome j (s .edge - 1) r at′ cs′) → ListPromise os vs s w at cs r at′ cs′
   walks-list os w at cs r at′ cs′ k j f y x d =
-      k j f (subst⁻¹ (λ v. CyclesShown j f os vs (s .len) (s .period) v (s .edge)) start-from y) (points-start f (y .cycle) x)
-      (subst⁻¹ (λ v. WrittenUpTo j (v - 1) (w .octet) (w .written) at cs) start-from d)
-
--- the next cursor
-pub safe-advances : (vs : List ℕ) (s : Stretch) → Walkable vs s → (c : Cursor) → Safe (s .len) (s .period) (s .edge) c → c .stop < s .edge → (r : Cursor)
-    → r ≡ advanced vs (s .len) (s .period) c → Advances vs (s .len) (s .period) c r
-safe-advances vs s h c k b r e =
-    subst⁻¹ (Advances vs (s .len) (s .period) c) e
-    (advances vs (s .len) (s .period) c (record {
-      some = h .some;
-      few = h .few;
-      used = h .used;
-      time = omega (arith, h .begun, h .ahead);
-      fits = λ z. omega (arith, h .near, h .short);
-      upto = k .upto;
-      near = omega (arith, h .near);
-      more = k .more;
-    }))
-
--- the next entry begins where this one stops
-pub advances-from : (vs : List ℕ) (n period : ℕ) (c r : Cursor) → Advances vs n period c r → c .stop ≤ c .next → r .from ≡ c .stop
-advances-from vs n period c r a u = go (ltb (c .stop) (c .next)) refl
-  where
-    go : (b : Bool) → ltb (c .stop) (c .next) ≡ b → r .from ≡ c .stop
-    go true z = ap (λ (q : Cursor). q .from) (a .goes (ltb-true (c .stop) (c .next) z) .is)
-    go false z =
-        let l = ltb-false (c .stop) (c .next) z in
-        ap (λ (q : Cursor). q .from) (a .wraps l .is) ∙ omega arith
-
-pub advances-less : (vs : List ℕ) (n period edge : ℕ) (c r : Cursor) → Safe n period edge c → Advances vs n period c r → edge - r .from < edge - c .from
-advances-less vs n period edge c r k a =
-    let e = advances-from vs n period c r a (k .upto) in
-    omega (arith, k .before, k .after)
+      let e = begins .0 in
+      k j f (subst⁻¹ (λ v. CyclesShown j f os vs (s .len) (s .period) v (s .edge)) e y) (points-start vs s c e (begins .1) f (y .plays .cycle) x)
+      (subst⁻¹ (λ v. WrittenUpTo j (v - 1) (w .octet) (w .written) at cs) e d)
 
 module _ (os vs : List ℕ) (n period edge : ℕ) (c₀ : Cursor) (w₀ : Walk) (at₀ cs₀ : List ℕ) where
   -- what is to be shown of a walk that starts at the first cursor
@@ -111,7 +58,7 @@ module _ (os vs : List ℕ) (n period edge : ℕ) (c₀ : Cursor) (w₀ : Walk) 
         let g = y .goal in
         let l = k .later in
         p j (z .1) (omega arith)
-        (λ v a b. y .shows v (omega arith) (omega arith) ∙ points-octet f (y .valid) os vs n (y .list) c (z .0) v a (omega arith))
+        (λ v a b. y .shows v (omega arith) (omega arith) ∙ points-octet f (y .plays .valid) os vs n (y .plays .list) c (z .0) v a (omega arith))
 
     -- full: the walk ends
     pub keeps-full : (u : ℕ) → u ≡ min (c .stop) edge → (r : Walk) (at′ cs′ : List ℕ) → PassPromise (getD os (c .place) 0) (c .from) u w at cs r at′ cs′
@@ -130,50 +77,20 @@ module _ (os vs : List ℕ) (n period edge : ℕ) (c₀ : Cursor) (w₀ : Walk) 
     -- the next entry
     pub keeps-more : (u : ℕ) → u ≡ min (c .stop) edge → (r : Walk) (at′ cs′ : List ℕ) → PassPromise (getD os (c .place) 0) (c .from) u w at cs r at′ cs′
         → r .full ≡ false → c .stop < edge → (c′ : Cursor) → Advances vs n period c c′ → Keeps os vs n period edge c₀ w₀ at₀ cs₀ c′ r at′ cs′
-    keeps-more u e r at′ cs′ p q b c′ a = go (ltb (c .stop) (c .next)) refl
-      where
-        here : u ≡ c .stop
-        here = omega arith
-
-        -- whatever entry follows, it begins where this one stops
-        onward : (place next : ℕ) → Enters vs n place (c .stop) next c′ → place < n → next ≤ c .stop + period
-            → ((f : Config) → (j : Journey) → CyclesShown j f os vs n period (c₀ .from) edge → Points f vs n c → Points f vs n c′) → Keeps os vs n period edge c₀ w₀ at₀ cs₀ c′ r at′ cs′
-        onward place next en l m g =
-            let t = k .safe in
-            let o = k .later in
-            let i : c′ .from ≡ c .stop = advances-from vs n period c c′ a (t .upto) in
-            let i′ : c′ .place ≡ place = ap (λ (q : Cursor). q .place) (en .is) in
-            let i″ : c′ .next ≡ next = ap (λ (q : Cursor). q .next) (en .is) in
-            record {
-              later = omega (arith, t .after);
-              safe = record {
-                one = omega arith;
-                first = omega (arith, t .first, t .after);
-                before = omega arith;
-                after = omega (arith, en .after);
-                upto = omega (arith, en .upto);
-                near = omega arith;
-                more = λ z. omega (arith, en .before (omega arith) .0);
-              };
-              walked = λ j f y x d. (
-                g f j y (k .walked j f y x d .0),
-                subst⁻¹ (λ v. WrittenUpTo j (v - 1) (r .octet) (r .written) at′ cs′) (i ∙ sym here) (keeps-pass u e r at′ cs′ p j f y x d .on q),
-              );
-            }
-
-        go : (t : Bool) → ltb (c .stop) (c .next) ≡ t → Keeps os vs n period edge c₀ w₀ at₀ cs₀ c′ r at′ cs′
-        go true z =
-            let l : c .stop < c .next = ltb-true (c .stop) (c .next) z in
-            let t = k .safe in
-            onward (c .place + 1) (c .next) (a .goes l) (t .more l) (omega (arith, t .near, t .after))
-            (λ f j y x. points-more f (y .valid) os vs n (y .list) c c′ x l (a .goes l))
-        go false z =
-            let t = k .safe in
-            let l : c .next ≤ c .stop = ltb-false (c .stop) (c .next) z in
-            let m : c .stop ≡ c .next = omega (arith, t .upto) in
-            onward 0 (c .next + period) (subst (λ v. Enters vs n 0 v (c .next + period) c′) (sym m) (a .wraps l)) (omega (arith, t .one)) (omega arith)
-            (λ f j y x. points-wrap f (y .valid) os vs n (y .list) c c′ x m
-            (subst⁻¹ (λ v. Enters vs n 0 (c .next) (c .next + v) c′) (y .cycle) (a .wraps l)))
+    keeps-more u e r at′ cs′ p q b c′ a =
+        let t = k .safe in
+        let o = k .later in
+        let i : c′ .from ≡ c .stop = from-stop os vs n period edge c c′ t b a in
+        let here : c′ .from ≡ u = omega arith in
+        record {
+          later = omega (arith, t .after);
+          first = omega (arith, k .first, t .after);
+          safe = safe-next os vs n period edge c c′ t b a;
+          walked = λ j f y x d. (
+            points-next os vs n period edge c c′ t b a f (y .plays) (k .walked j f y x d .0),
+            subst⁻¹ (λ v. WrittenUpTo j (v - 1) (r .octet) (r .written) at′ cs′) here (keeps-pass u e r at′ cs′ p j f y x d .on q),
+          );
+        }
 
 -- a list whose octets are one shows it, all through its cycles
 
@@ -199,4 +116,4 @@ uniform-octet f os vs n some list u v =
 -- so passing it is the walk of the stretch
 pub walks-uniform : (os vs : List ℕ) (s : Stretch) (w : Walk) (at cs : List ℕ) (r : Walk) (at′ cs′ : List ℕ) → 1 ≤ s .len → Uniform os (s .len)
     → PassPromise (getD os 0 0) (s .from) (s .edge) w at cs r at′ cs′ → ListPromise os vs s w at cs r at′ cs′
-walks-uniform os vs s w at cs r at′ cs′ some u p j f y x d = p j d (y .goal) (λ v a b. y .shows v a b ∙ uniform-octet f os vs (s .len) some (y .list) u v)
+walks-uniform os vs s w at cs r at′ cs′ some u p j f y x d = p j d (y .goal) (λ v a b. y .shows v a b ∙ uniform-octet f os vs (s .len) some (y .plays .list) u v)

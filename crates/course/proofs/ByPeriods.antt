@@ -10,15 +10,16 @@ use native.Mathlib.Omega.{arith}
 use lib.Dec.{ltb}
 use borrow.Author.Tests.{ltb-true, ltb-false}
 use lib.ListN.{length, length-append}
-use Rattle.rule.specs.Entries.{octetAt}
 use Rattle.rule.specs.History.{changes}
 use Rattle.rule.specs.Cycle.{Config, Valid, startNo, cycleNo, plainStart, plainOctet}
 use Rattle.rule.proofs.Cycles.{start-le, plain-le, next-start}
 use Rattle.rule.proofs.Regime.{next-is, same-start, next-own}
 use Rattle.course.specs.declared.stretch.Walk.{Walk}
-use Rattle.course.specs.declared.stretch.Stretch.{Stretch}
+use Rattle.timetable.specs.declared.cursor.Stretch.{Stretch}
+use Rattle.timetable.specs.Stretch.{Runs}
+use Rattle.timetable.proofs.Stretches.{plain-round}
 use Rattle.course.specs.Journey.{Journey, WrittenUpTo, WalkOutcome}
-use Rattle.course.specs.Stretch.{Walkable, CyclesShown, Runs, ListPromise}
+use Rattle.course.specs.Stretch.{Reportable, CyclesShown, ListPromise}
 use Rattle.course.specs.Period.{GoneByPeriods, BaseAt, PeriodChanges, RepeatPromise}
 use Rattle.course.proofs.Recurring.{changes-on, written-rounds}
 
@@ -45,14 +46,6 @@ module _ (f : Config) (valid : Valid f) where
       let e : v + suc k * f .cycle ≡ v + k * f .cycle + f .cycle = omega arith in
       ap (plainStart f) e ∙ start-period (v + k * f .cycle) (omega arith) ∙ omega (arith, start-times v k h)
 
-  -- and what is shown comes again
-  octet-period : (v : ℕ) → f .start ≤ v → plainOctet f (v + f .cycle) ≡ plainOctet f v
-  unfolding plainOctet
-  octet-period v h =
-      let a : plainStart f v ≤ v = plain-le f valid v h in
-      let e : v + f .cycle - plainStart f (v + f .cycle) ≡ v - plainStart f v = omega (arith, start-period v h) in
-      ap (octetAt (f .list)) e
-
   -- the cycle that runs 1 ns later
   start-next : (base t b : ℕ) → f .start ≤ t → plainStart f t ≡ base → BaseAt base (f .cycle) (t + 1) b → plainStart f (t + 1) ≡ b
   start-next base t b h r n =
@@ -74,16 +67,14 @@ module _ (f : Config) (valid : Valid f) where
 module _ (j : Journey) (f : Config) (os vs : List ℕ) (n p t edge : ℕ) (y : CyclesShown j f os vs n p t edge) where
   cycles-part : (u e : ℕ) → t ≤ u → e ≤ edge → CyclesShown j f os vs n p u e
   cycles-part u e a b = let g = y .goal in record {
-    valid = y .valid;
-    list = y .list;
-    cycle = y .cycle;
+    plays = y .plays;
     shows = λ v k l. y .shows v (omega arith) (omega arith);
     goal = omega arith;
   }
 
   cycles-come : f .start ≤ t → (v : ℕ) → t ≤ v → v + p < edge → j .shows (v + p) ≡ j .shows v
   cycles-come h v a b =
-      y .shows (v + p) (omega arith) b ∙ ap (λ q. plainOctet f (v + q)) (sym (y .cycle)) ∙ octet-period f (y .valid) v (omega arith)
+      y .shows (v + p) (omega arith) b ∙ ap (λ q. plainOctet f (v + q)) (sym (y .plays .cycle)) ∙ plain-round f (y .plays .valid) v (omega arith)
       ∙ sym (y .shows v a (omega arith))
 
 -- the rounds of a stretch that are repeated, and the rest of it
@@ -95,20 +86,26 @@ gone-since t last period count since w at os r at′ os′ e k = subst (λ q. Go
 abbrev pub restOf : Stretch → ℕ → Stretch
 restOf s next = record { len = s .len; period = s .period; base = s .base + (next - s .from); from = next; edge = s .edge }
 
-pub walkable-rest : (vs : List ℕ) (s : Stretch) → Walkable vs s → (next : ℕ) → s .from ≤ next → next < s .edge → Walkable vs (restOf s next)
-walkable-rest vs s h next a b = let c = h .begun in let d = h .ahead in record {
-  some = h .some;
-  few = h .few;
-  used = h .used;
-  first = omega (arith, h .first);
-  begun = omega arith;
-  ahead = omega arith;
-  before = b;
-  near = h .near;
-  short = h .short;
-}
+pub reportable-rest : (vs : List ℕ) (s : Stretch) → Reportable vs s → (next : ℕ) → s .from ≤ next → next < s .edge → Reportable vs (restOf s next)
+reportable-rest vs s k next a b =
+    let h = k .walkable in
+    let c = h .begun in
+    let d = h .ahead in
+    record {
+      walkable = record {
+        some = h .some;
+        few = h .few;
+        used = h .used;
+        begun = omega arith;
+        ahead = omega arith;
+        before = b;
+        near = h .near;
+        short = h .short;
+      };
+      first = omega (arith, k .first);
+    }
 
-module _ (os vs : List ℕ) (s : Stretch) (spans : Walkable vs s) (since : ℕ) (w : Walk) (at cs : List ℕ) (r : Walk) (at′ cs′ : List ℕ)
+module _ (os vs : List ℕ) (s : Stretch) (spans : Reportable vs s) (since : ℕ) (w : Walk) (at cs : List ℕ) (r : Walk) (at′ cs′ : List ℕ)
     (q : GoneByPeriods (s .from - 1) (s .edge - 1) (s .period) (w .written - since) w at cs r at′ cs′) where
   -- the walk has come to where the rounds end
   repeated-written : (j : Journey) (f : Config) (t : ℕ) → s .from ≡ t + s .period + 1 → PeriodChanges j f t (s .period) (w .written - since) → CyclesShown j f os vs (s .len) (s .period) t (s .edge)
@@ -119,8 +116,8 @@ module _ (os vs : List ℕ) (s : Stretch) (spans : Walkable vs s) (since : ℕ) 
       let a = q .stands in
       let u : r .at ≡ t + p + q .periods * p = omega arith in
       let b = q .upto in
-      let n = spans .near in
-      let h = spans .before in
+      let n = spans .walkable .near in
+      let h = spans .walkable .before in
       let x = written-rounds j p t (s .edge) (cycles-come j f os vs (s .len) p t (s .edge) y (k .started)) (k .after) (w .octet) (w .written) at cs
       (subst (λ v. WrittenUpTo j v (w .octet) (w .written) at cs) z d) (w .written - since) (k .has) (q .periods) (omega arith) (r .written) (q .written) (q .repeatable)
       at′ cs′ (omega arith) (y .goal) (q .instants) (q .octets) in
@@ -130,7 +127,7 @@ module _ (os vs : List ℕ) (s : Stretch) (spans : Walkable vs s) (since : ℕ) 
   pub repeated-edge : s .edge ≤ r .at + 1 → RepeatPromise os vs s since w at cs r at′ cs′
   repeated-edge l j f t e k y x d =
       let b = q .upto in
-      let h = spans .before in
+      let h = spans .walkable .before in
       let z : r .at ≡ s .edge - 1 = omega arith in
       record {
         on = λ _. subst (λ v. WrittenUpTo j v (r .octet) (r .written) at′ cs′) z (repeated-written j f t e k y d);
@@ -145,11 +142,11 @@ module _ (os vs : List ℕ) (s : Stretch) (spans : Walkable vs s) (since : ℕ) 
       let p : ℕ = s .period in
       let a = q .stands in
       let i = spans .first in
-      let c = y .cycle in
+      let c = y .plays .cycle in
       let z : r .at + 1 ≡ s .from + q .periods * f .cycle = omega arith ∙ ap (λ v. s .from + q .periods * v) (sym c) in
       let z′ : r .at ≡ r .at + 1 - 1 = omega arith in
       let o = x .started in
-      let b : plainStart f (r .at + 1) ≡ s .base + (r .at + 1 - s .from) = ap (plainStart f) z ∙ start-times f (y .valid) (s .from) (q .periods) o ∙ omega (arith, x .base) in
+      let b : plainStart f (r .at + 1) ≡ s .base + (r .at + 1 - s .from) = ap (plainStart f) z ∙ start-times f (y .plays .valid) (s .from) (q .periods) o ∙ omega (arith, x .base) in
       m j f (cycles-part j f os vs (s .len) p t (s .edge) y (r .at + 1) (s .edge) (omega arith) (omega arith)) (record { started = omega arith; base = b })
       (subst (λ v. WrittenUpTo j v (r .octet) (r .written) at′ cs′) z′ (repeated-written j f t e k y d))
 
@@ -164,18 +161,23 @@ roundOf s b = record { len = s .len; period = s .period; base = b; from = s .fro
 abbrev pub afterOf : Stretch → ℕ → Stretch
 afterOf s b = record { len = s .len; period = s .period; base = b + s .period; from = s .from + 1 + s .period; edge = s .edge }
 
-pub walkable-first : (vs : List ℕ) (s : Stretch) → Walkable vs s → Walkable vs (firstInstantOf s)
-walkable-first vs s h = let b = h .before in record {
-  some = h .some;
-  few = h .few;
-  used = h .used;
-  first = h .first;
-  begun = h .begun;
-  ahead = h .ahead;
-  before = omega arith;
-  near = omega (arith, h .near);
-  short = h .short;
-}
+pub reportable-first : (vs : List ℕ) (s : Stretch) → Reportable vs s → Reportable vs (firstInstantOf s)
+reportable-first vs s k =
+    let h = k .walkable in
+    let b = h .before in
+    record {
+      walkable = record {
+        some = h .some;
+        few = h .few;
+        used = h .used;
+        begun = h .begun;
+        ahead = h .ahead;
+        before = omega arith;
+        near = omega (arith, h .near);
+        short = h .short;
+      };
+      first = k .first;
+    }
 
 -- the start found is that of a cycle that runs then
 pub base-runs : (base period t b : ℕ) → base ≤ t → t < base + period → BaseAt base period (t + 1) b → (b ≤ t + 1) × (t + 1 < b + period)
@@ -185,32 +187,42 @@ base-runs base period t b h k n = go (ltb (t + 1) (base + period)) refl
     go true z = let l = ltb-true (t + 1) (base + period) z in let e = n .same l in (omega arith, omega arith)
     go false z = let l = ltb-false (t + 1) (base + period) z in let e = n .next l in (omega arith, omega arith)
 
-module _ (vs : List ℕ) (s : Stretch) (h : Walkable vs s) (long : s .from + 1 + s .period < s .edge) (b : ℕ) (runs : BaseAt (s .base) (s .period) (s .from + 1) b) where
-  pub walkable-round : Walkable vs (roundOf s b)
-  walkable-round = let z = base-runs (s .base) (s .period) (s .from) b (h .begun) (h .ahead) runs in record {
-    some = h .some;
-    few = h .few;
-    used = h .used;
-    first = omega arith;
-    begun = z .0;
-    ahead = z .1;
-    before = omega (arith, h .begun, h .ahead);
-    near = omega (arith, h .near);
-    short = h .short;
-  }
+module _ (vs : List ℕ) (s : Stretch) (k : Reportable vs s) (long : s .from + 1 + s .period < s .edge) (b : ℕ) (runs : BaseAt (s .base) (s .period) (s .from + 1) b) where
+  pub reportable-round : Reportable vs (roundOf s b)
+  reportable-round =
+      let h = k .walkable in
+      let z = base-runs (s .base) (s .period) (s .from) b (h .begun) (h .ahead) runs in
+      record {
+        walkable = record {
+          some = h .some;
+          few = h .few;
+          used = h .used;
+          begun = z .0;
+          ahead = z .1;
+          before = omega (arith, h .begun, h .ahead);
+          near = omega (arith, h .near);
+          short = h .short;
+        };
+        first = omega arith;
+      }
 
-  pub walkable-after : Walkable vs (afterOf s b)
-  walkable-after = let z = base-runs (s .base) (s .period) (s .from) b (h .begun) (h .ahead) runs in record {
-    some = h .some;
-    few = h .few;
-    used = h .used;
-    first = omega arith;
-    begun = omega (arith, z .0);
-    ahead = omega (arith, z .1);
-    before = long;
-    near = h .near;
-    short = h .short;
-  }
+  pub reportable-after : Reportable vs (afterOf s b)
+  reportable-after =
+      let h = k .walkable in
+      let z = base-runs (s .base) (s .period) (s .from) b (h .begun) (h .ahead) runs in
+      record {
+        walkable = record {
+          some = h .some;
+          few = h .few;
+          used = h .used;
+          begun = omega (arith, z .0);
+          ahead = omega (arith, z .1);
+          before = long;
+          near = h .near;
+          short = h .short;
+        };
+        first = omega arith;
+      }
 
 -- a walk that is full before the edge
 outcome-full : (j : Journey) (t u : ℕ) (w : Walk) (at os : List ℕ) → w .full ≡ true → WalkOutcome j t w at os → WalkOutcome j u w at os
@@ -233,7 +245,7 @@ module _ (os vs : List ℕ) (s : Stretch) (long : s .from + 1 + s .period < s .e
     module _ (goes : a .full ≡ false) (b : ℕ) (runs : BaseAt (s .base) (s .period) (s .from + 1) b)
         (c : Walk) (at₂ cs₂ : List ℕ) (x₂ : ListPromise os vs (roundOf s b) a at₁ cs₁ c at₂ cs₂) where
       round-start : plainStart f (s .from + 1) ≡ b
-      round-start = start-next f (y .valid) (s .base) (s .from) b (z .started) (z .base) (subst⁻¹ (λ v. BaseAt (s .base) v (s .from + 1) b) (y .cycle) runs)
+      round-start = start-next f (y .plays .valid) (s .base) (s .from) b (z .started) (z .base) (subst⁻¹ (λ v. BaseAt (s .base) v (s .from + 1) b) (y .plays .cycle) runs)
 
       round-outcome : WalkOutcome j (s .from + 1 + s .period - 1) c at₂ cs₂
       round-outcome =
@@ -247,7 +259,7 @@ module _ (os vs : List ℕ) (s : Stretch) (long : s .from + 1 + s .period < s .e
           let o = z .started in
           record {
             started = omega arith;
-            base = ap (λ i. plainStart f (s .from + 1 + i)) (sym (y .cycle)) ∙ start-period f (y .valid) (s .from + 1) (omega arith) ∙ ap₂ (λ i l. i + l) round-start (y .cycle);
+            base = ap (λ i. plainStart f (s .from + 1 + i)) (sym (y .plays .cycle)) ∙ start-period f (y .plays .valid) (s .from + 1) (omega arith) ∙ ap₂ (λ i l. i + l) round-start (y .plays .cycle);
           }
 
       -- the round has as many changes as were written for it

@@ -18,10 +18,10 @@ use Rattle.timetable.specs.Coding.{decode, Fine}
 use Rattle.timetable.specs.Regime.{spanAt, cutAt, Governs}
 use Rattle.timetable.proofs.Spans.{InTime, governs, governs-cut}
 use Rattle.timetable.proofs.Records.{listIn, isThere, list-fine, list-used, table-flat, table-ruled}
+use Rattle.timetable.specs.declared.cursor.Stretch.{Stretch}
 use Rattle.course.specs.declared.stretch.Walk.{Walk}
-use Rattle.course.specs.declared.stretch.Stretch.{Stretch}
 use Rattle.course.specs.Journey.{PassPromise, journeyOf, Ahead, SpanPromise}
-use Rattle.course.specs.Stretch.{Walkable, ListPromise}
+use Rattle.course.specs.Stretch.{Reportable, ListPromise}
 
 -- the stretch that a span from t on is, for a list
 abbrev pub stretchOf : GateList → ℕ → Span → Stretch
@@ -44,21 +44,23 @@ module _ (g : Timetable) (t : ℕ) (r : Span) (h : Ahead (g .times) t r) where
     ruled : Rules (shown (decode g)) (listOf (listIn g b)) (r .period) (r .start) t (r .edge)
     ruled = table-ruled g t r (h .governs) e b q
 
-    pub span-walkable : Fine g → Walkable (listIn g b .intervals) (stretchOf (listIn g b) t r)
-    span-walkable k =
+    pub span-reportable : Fine g → Reportable (listIn g b .intervals) (stretchOf (listIn g b) t r)
+    span-reportable k =
         let there : isThere (g .times) b ≡ true = subst (λ d. isThere (g .times) d ≡ true) q (h .governs .there e) in
         let l = list-fine g k b there in
         let i = rules-inside (shown (decode g)) (listOf (listIn g b)) (r .period) (r .start) t (r .edge) ruled in
         record {
-          some = l .0;
-          few = l .1;
-          used = list-used g k b there;
+          walkable = record {
+            some = l .0;
+            few = l .1;
+            used = list-used g k b there;
+            begun = i .0;
+            ahead = i .1;
+            before = h .governs .after;
+            near = omega (arith, h .near);
+            short = h .governs .short e;
+          };
           first = h .first;
-          begun = i .0;
-          ahead = i .1;
-          before = h .governs .after;
-          near = omega (arith, h .near);
-          short = h .governs .short e;
         }
 
     pub span-walks : (w : Walk) (at os : List ℕ) (r′ : Walk) (at′ os′ : List ℕ)
@@ -66,5 +68,5 @@ module _ (g : Timetable) (t : ℕ) (r : Span) (h : Ahead (g .times) t r) where
     span-walks w at os r′ at′ os′ k goal at₀ os₀ u d =
         let z = ruled in
         k (journeyOf g goal at₀ os₀) (z .config)
-        (record { valid = z .valid; list = z .list; cycle = z .cycle; shows = z .all; goal = u })
+        (record { plays = record { valid = z .valid; list = z .list; cycle = z .cycle }; shows = z .all; goal = u })
         (record { started = z .started; base = z .runs }) d

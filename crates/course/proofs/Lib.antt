@@ -2,6 +2,7 @@ pub mod ChangesWritten
 pub mod ByEntries
 pub mod BySpans
 pub mod PlacesAgain
+pub mod Doubling
 pub mod Recurring
 pub mod ByPeriods
 pub mod WaysOut

@@ -8,9 +8,10 @@ use lib.ListN.{length, getD}
 use Rattle.rule.specs.History.{changes}
 use Rattle.rule.specs.Cycle.{Config}
 use Rattle.course.specs.declared.stretch.Walk.{Walk}
-use Rattle.course.specs.declared.stretch.Stretch.{Stretch}
+use Rattle.timetable.specs.declared.cursor.Stretch.{Stretch}
+use Rattle.timetable.specs.Stretch.{Runs}
 use Rattle.course.specs.Journey.{Journey, WrittenUpTo, WalkOutcome}
-use Rattle.course.specs.Stretch.{CyclesShown, Runs}
+use Rattle.course.specs.Stretch.{CyclesShown}
 
 -- what it takes to write the places from n to before end, each from the one count places before it, in buffers of lengths a and b
 pub record CanRepeat (count n end a b : ℕ) : Type 0 where

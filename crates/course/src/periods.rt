@@ -1,13 +1,14 @@
 // A stretch of many cycles: the changes of one period are walked, and then written again, period after period.
-ghost use Prim.Native.Nat.{_<_, _≤_, _-_, _+_, _*_};
+ghost use mathlib.Core.Path.{_≡_};
+ghost use Prim.Native.Nat.{_<_, _≤_, _-_, _+_, _*_, min};
 ghost use lib.ListN.{length};
-ghost use Rattle.course.specs.Stretch.{Walkable, ListPromise};
+ghost use Rattle.course.specs.Stretch.{Reportable, ListPromise};
 ghost use Rattle.course.specs.Period.{CanRepeat, WrittenAgain, later, same, GoneByPeriods, RepeatPromise, BaseAt};
-use crate::stretch::Stretch;
 use crate::stretch::Walk;
 use crate::stretch::pass;
 use crate::stretch::uniform;
 use crate::stretch::walk_list;
+use timetable::Stretch;
 use timetable::least;
 use timetable::minus;
 
@@ -23,15 +24,55 @@ fn periods_that_fit(time: u64, period: u64, count: u64, free: u64) -> u64
     least(k, free / count)
 }
 
-// Writes the places from n to before end, each from the one that is count places before it: the instant one period later, the octet as it is.
+// Writes the places from n to before end, each from the one that is count places before it: instants, so much later.
+fn repeat_later(count: usize, time: u64, n: usize, end: usize, instants: &mut [u64])
+    requires { ⌜ CanRepeat count n end (length (now instants)) (length (now instants)) ⌝ }
+    ensures { λ r. ⌜ WrittenAgain (later time) count n end (now (instants .entry)) (now (instants .exit)) ⌝ }
+{
+    for i in n..end {
+        let from = i - count;
+        instants[i] = std::num::wrapping_add_u64(instants[from], time);
+    }
+}
+
+// The same of octets, as they are.
+fn repeat_same(count: usize, n: usize, end: usize, octets: &mut [u8])
+    requires { ⌜ CanRepeat count n end (length (now octets)) (length (now octets)) ⌝ }
+    ensures { λ r. ⌜ WrittenAgain same count n end (now (octets .entry)) (now (octets .exit)) ⌝ }
+{
+    for i in n..end {
+        let from = i - count;
+        octets[i] = octets[from];
+    }
+}
+
+// So many places on, but no further than the end.
+fn places_on(done: usize, size: usize, end: usize) -> usize
+    requires { ⌜ done ≤ end ⌝ }
+    ensures { λ r. ⌜ r ≡ min (done + size) end ⌝ }
+{
+    if end - done <= size {
+        return end;
+    }
+    done + size
+}
+
+// Writes the places from n to before end, each from the one that is count places before it: the instant one period later, the octet as it is. What is
+// written is written again as a whole, so it is twice as much each time, and no place is read and written in one loop.
 fn repeat(count: usize, period: u64, n: usize, end: usize, instants: &mut [u64], octets: &mut [u8])
     requires { ⌜ CanRepeat count n end (length (now instants)) (length (now octets)) ⌝ }
     ensures { λ r. ⌜ WrittenAgain (later period) count n end (now (instants .entry)) (now (instants .exit)) × WrittenAgain same count n end (now (octets .entry)) (now (octets .exit)) ⌝ }
 {
-    for i in n..end {
-        let from = i - count;
-        instants[i] = std::num::wrapping_add_u64(instants[from], period);
-        octets[i] = octets[from];
+    let mut size = count;
+    let mut time = period;
+    let mut done = n;
+    while done < end {
+        let upto = places_on(done, size, end);
+        repeat_later(size, time, done, upto, instants);
+        repeat_same(size, done, upto, octets);
+        done = upto;
+        size = std::num::wrapping_add_usize(size, size);
+        time = std::num::wrapping_add_u64(time, time);
     }
 }
 
@@ -75,7 +116,7 @@ fn walk_repeating<'a>(
     instants: &mut [u64],
     changed: &mut [u8],
 ) -> Walk
-    requires { ⌜ Walkable (now intervals) s ⌝ }
+    requires { ⌜ Reportable (now intervals) s ⌝ }
     ensures { λ r. ⌜ RepeatPromise (now (octets .entry)) (now (intervals .entry)) s since before (now (instants .entry)) (now (changed .entry)) r (now (instants .exit)) (now (changed .exit)) ⌝ }
 {
     let period = s.period;
@@ -115,7 +156,7 @@ fn walk_long<'a>(
     instants: &mut [u64],
     changed: &mut [u8],
 ) -> Walk
-    requires { ⌜ Walkable (now intervals) s ⌝ }
+    requires { ⌜ Reportable (now intervals) s ⌝ }
     requires { ⌜ s .from + 1 + s .period < s .edge ⌝ }
     ensures { λ r. ⌜ ListPromise (now (octets .entry)) (now (intervals .entry)) s before (now (instants .entry)) (now (changed .entry)) r (now (instants .exit)) (now (changed .exit)) ⌝ }
 {
@@ -158,7 +199,7 @@ pub fn walk_ruled<'a>(
     instants: &mut [u64],
     changed: &mut [u8],
 ) -> Walk
-    requires { ⌜ Walkable (now intervals) s ⌝ }
+    requires { ⌜ Reportable (now intervals) s ⌝ }
     ensures { λ r. ⌜ ListPromise (now (octets .entry)) (now (intervals .entry)) s before (now (instants .entry)) (now (changed .entry)) r (now (instants .exit)) (now (changed .exit)) ⌝ }
 {
     if uniform(octets, s.len) {

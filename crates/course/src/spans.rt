@@ -6,15 +6,15 @@ ghost use Rattle.rule.specs.Timetable.{shown};
 ghost use Rattle.timetable.specs.Coding.{decode, Fine};
 ghost use Rattle.course.specs.Journey.{WalkEnds, journeyOf, Ahead, SpanPromise};
 use crate::periods::walk_ruled;
-use crate::stretch::Stretch;
 use crate::stretch::Walk;
 use crate::stretch::pass;
 use timetable::Span;
+use timetable::Stretch;
 use timetable::Times;
 use timetable::least;
 use timetable::regime;
 
-// WalkEnds a span of a port from t on: the standing octet, or one of the port's two lists.
+// Walks a span of a timetable from t on: the standing octet, or one of its two lists.
 fn walk_span<'a>(
     x: Times,
     os: &'a [u8; 128],
@@ -57,7 +57,7 @@ fn walk_span<'a>(
     walk_ruled(os, vs, s, before, instants, changed)
 }
 
-// WalkEnds from the clock, where an octet is shown, to a goal, and writes each change; or to 1 ns before the first change that has no room.
+// Walks from the clock, where an octet is shown, to a goal, and writes each change; or to 1 ns before the first change that has no room.
 pub fn walk_to<'a>(
     x: Times,
     os: &'a [u8; 128],

@@ -4,7 +4,8 @@ ghost use mathlib.Core.Path.{_≡_};
 ghost use mathlib.Core.Bool.{true};
 ghost use Prim.Native.Nat.{_<_, _≤_};
 ghost use Rattle.course.specs.Journey.{PassPromise};
-ghost use Rattle.course.specs.Stretch.{Walkable, ListPromise, Uniform};
+ghost use Rattle.course.specs.Stretch.{Reportable, ListPromise, Uniform};
+use timetable::Stretch;
 use timetable::advance;
 use timetable::cursor_at;
 use timetable::least;
@@ -67,16 +68,6 @@ pub fn pass(
     }
 }
 
-// A stretch in which one list rules: its cycles take a period, one of them has begun at base and runs at the instant from, and so it goes on to before
-// the edge.
-pub struct Stretch {
-    pub len: usize,
-    pub period: u64,
-    pub base: u64,
-    pub from: u64,
-    pub edge: u64,
-}
-
 // Walks a stretch entry by entry.
 pub fn walk_list<'a>(
     octets: &'a [u8; 128],
@@ -86,7 +77,7 @@ pub fn walk_list<'a>(
     instants: &mut [u64],
     changed: &mut [u8],
 ) -> Walk
-    requires { ⌜ Walkable (now intervals) s ⌝ }
+    requires { ⌜ Reportable (now intervals) s ⌝ }
     ensures { λ r. ⌜ ListPromise (now (octets .entry)) (now (intervals .entry)) s before (now (instants .entry)) (now (changed .entry)) r (now (instants .exit)) (now (changed .exit)) ⌝ }
 {
     let len = s.len;

@@ -1,7 +1,6 @@
 // Step: the clock moves to a goal, and each change of the octet shown is written into two lent buffers, instant and octet, from place 0 on; every other
 // place stays as it was. Where a change has no room the clock stands 1 ns before it. A refused step hands back the port that it got and writes nothing.
 ghost use mathlib.Core.Path.{_≡_};
-ghost use Prim.Native.Nat.{_≤_};
 ghost use Rattle.rule.specs.Timetable.{shown};
 ghost use Rattle.rule.proofs.Walk.{shutIn};
 ghost use Rattle.timetable.specs.Coding as timetable;

@@ -42,6 +42,7 @@ impl Port {
         if let Answer::Refused(_) = answer {
             return Acted { answer, port: p };
         }
+        // the numbers one by one, and the list's places by a loan: no struct or array is stored into a part of a part, and no part is copied
         let y = submission::placed(x, list.len, numerator, denominator, extension, base);
         p.gates.times.clock = y.clock;
         p.gates.times.on = y.on;

@@ -1,7 +1,7 @@
 -- `submission::placed` meets its contract: its parts are those of the definition.
 -- Assumes nothing.
 use borrow.Author.Needs.{needs}
-use mathlib.Core.Path.{_≡_, ap, _∙_}
+use mathlib.Core.Path.{ap, _∙_}
 use Prim.Native.Nat.{_%_}
 use Rattle.timetable.specs.Coding.{changeBy}
 use Rattle.submission.specs.Placement.{placedBy, placedTimes}

@@ -1,85 +1,71 @@
--- `course::periods::repeat` meets its contract. The loop's invariant: the places from n to before i are written. The measure: the places that are left.
+-- `course::periods::repeat` meets its contract. The loop's invariant: all is written up to before `done`, and the next places are those of so many rounds
+-- before (`Doubles`). The measure: the places that are left.
 -- Assumes nothing.
-use mathlib.Core.Path.{_≡_, refl, subst}
-use Prim.Native.Nat.{_≤_, _-_}
+use borrow.Author.Needs.{needs}
+use mathlib.Core.Path.{_≡_, subst}
+use Prim.Native.Nat.{_-_}
 use native.Mathlib.Omega.{arith}
 use Rattle.course.specs.Period.{WrittenAgain, later, same}
-use Rattle.course.proofs.PlacesAgain.{again-none, again-more}
-use borrow.Author.Needs.{needs}
+use Rattle.course.proofs.Doubling.{Doubles, doubles-none, doubles-on, block-instants, block-octets, doubles-more}
 use Rattle.course.proofs.periods.repeat.Statement.{statement}
 use Rattle.course.proofs.periods.repeat.Tie as tie
 
 abbrev Inv-loop : tie.InvT-loop
-Inv-loop count period n end instants₀ octets₀ i₀ instants octets i = ((n ≤ i) × (i ≤ end))
-    × (WrittenAgain (later period) count n i instants₀ instants × WrittenAgain same count n i octets₀ octets)
+Inv-loop count period n end instants₀ octets₀ size₀ time₀ done₀ instants octets size time done =
+    Doubles count period n end instants₀ octets₀ size time done instants octets
 
 abbrev μ-loop : tie.MeasureT-loop
-μ-loop count period n end instants₀ octets₀ i₀ instants octets i = end - i
+μ-loop count period n end instants₀ octets₀ size₀ time₀ done₀ instants octets size time done = end - done
 
 loop-holds : tie.Need-loop-holds Inv-loop μ-loop
-loop-holds c = ((omega arith, c .before .before .pre .upto), (again-none _ _ _ _, again-none _ _ _ _))
+loop-holds c = let s = c .before .before in doubles-none _ _ _ _ _ _ (s .pre .upto) (omega arith)
 
-sub-from : tie.Need-sub-from Inv-loop μ-loop
-sub-from c = let h = c .before .before .before .before .pre .held (omega arith) in omega arith
+places-on-requires : tie.Need-places-on-requires Inv-loop μ-loop
+places-on-requires c κs = search needs
 
-mul-wrapping-add-u64 : tie.Need-mul-wrapping-add-u64 Inv-loop μ-loop
-mul-wrapping-add-u64 c = let f = c .before .before .before .before .pre .fits (omega arith) in let e = c .before .loop .inv .1 .0 .long in search needs
+repeat-later-requires : tie.Need-repeat-later-requires Inv-loop μ-loop
+repeat-later-requires c κs =
+    let u = c .before in
+    block-instants _ _ _ _ _ _ (c .before .before .before .before .before .before .pre) _ _ _ _ _ (c .before .before .before .loop .inv) (c .before .before .loop-test .taken) _ (u .places-on .ensures)
 
-slice-read-wrapping-add-u64 : tie.Need-slice-read-wrapping-add-u64 Inv-loop μ-loop
-slice-read-wrapping-add-u64 c = let f = c .before .before .before .before .before .pre .fits (omega arith) in let e = c .before .before .loop .inv .1 .0 .long in search needs
+repeat-same-requires : tie.Need-repeat-same-requires Inv-loop μ-loop
+repeat-same-requires c κs =
+    let u = c .before .before .before .before .before in
+    block-octets _ _ _ _ _ _ (c .before .before .before .before .before .before .before .before .before .before .pre) _ _ _ _ _ (c .before .before .before .before .before .before .before .loop .inv) (c .before .before .before .before .before .before .loop-test .taken) _ (u .places-on .ensures)
+
+wrapping-add-usize-requires : tie.Need-wrapping-add-usize-requires Inv-loop μ-loop
+wrapping-add-usize-requires c κs = search needs
 
 wrapping-add-u64-requires : tie.Need-wrapping-add-u64-requires Inv-loop μ-loop
 wrapping-add-u64-requires c κs = search needs
 
-mul-instants : tie.Need-mul-instants Inv-loop μ-loop
-mul-instants c = let f = c .before .before .before .before .before .before .pre .fits (omega arith) in let e = c .before .before .before .loop .inv .1 .0 .long in search needs
-
-slice-write-instants : tie.Need-slice-write-instants Inv-loop μ-loop
-slice-write-instants c = let f = c .before .before .before .before .before .before .pre .fits (omega arith) in let e = c .before .before .before .loop .inv .1 .0 .long in search needs
-
-slice-read-octets : tie.Need-slice-read-octets Inv-loop μ-loop
-slice-read-octets c = let f = c .before .before .before .before .before .before .before .pre .fits (omega arith) in let e = c .before .before .before .before .loop .inv .1 .1 .long in search needs
-
-slice-write-octets : tie.Need-slice-write-octets Inv-loop μ-loop
-slice-write-octets c = let f = c .before .before .before .before .before .before .before .pre .fits (omega arith) in let e = c .before .before .before .before .loop .inv .1 .1 .long in search needs
-
-add-i : tie.Need-add-i Inv-loop μ-loop
-add-i c = search needs
-
 loop-less : tie.Need-loop-less Inv-loop μ-loop
-loop-less c = search needs
+loop-less c =
+    let u = c .before .before .before .before .before .before .before .before .before .before in
+    let t = c .before .before .before .before .before .before .before .before .before .before .before .loop-test .taken in
+    let h = doubles-on _ _ _ _ _ _ (c .before .before .before .before .before .before .before .before .before .before .before .before .before .before .before .pre) _ _ _ _ _ (c .before .before .before .before .before .before .before .before .before .before .before .before .loop .inv) t _ (u .places-on .ensures) in
+    omega arith
 
 loop-again : tie.Need-loop-again Inv-loop μ-loop
 loop-again c =
-    let s = c .before .before .before .before .before .before .before in
-    let a = s .args in
-    let l = c .before .before .before .before .loop in
-    let v = c .before .wrapping-add-u64 in
-    let h = s .pre .some (omega arith) in
-    let k = s .pre .held (omega arith) in
-    let f = s .pre .fits (omega arith) in
-    let e = l .inv .1 .0 .long in
-    let e′ = l .inv .1 .1 .long in (
-      (omega arith, omega arith),
-      (
-        again-more (later (a .period)) (a .count) (a .n) (l .i) (v .result) (a .instants .now) (l .instants) (l .inv .1 .0) h k (omega arith) (omega arith) (v .ensures),
-        again-more same (a .count) (a .n) (l .i) _ (a .octets .now) (l .octets) (l .inv .1 .1) h k (omega arith) (omega arith) refl,
-      ),
-    )
+    let u = c .before .before .before .before .before .before .before .before .before .before in
+    let t = c .before .before .before .before .before .before .before .before .before .before .before .loop-test .taken in
+    doubles-more _ _ _ _ _ _ (c .before .before .before .before .before .before .before .before .before .before .before .before .before .before .before .pre) _ _ _ _ _ (c .before .before .before .before .before .before .before .before .before .before .before .before .loop .inv) t _ (u .places-on .ensures) (omega arith) _ _
+    (c .before .before .before .before .before .before .before .before .repeat-later .ensures) (c .before .before .before .before .repeat-same .ensures) _ _ (c .before .wrapping-add-usize .ensures) (c .wrapping-add-u64 .ensures)
 
 same-length : tie.Need-same-length Inv-loop μ-loop
-same-length c = search needs
+same-length c = c .before .loop .inv .instants .long
 
 same-length-2 : tie.Need-same-length-2 Inv-loop μ-loop
-same-length-2 c = search needs
+same-length-2 c = c .before .loop .inv .octets .long
 
 returns : tie.Need-returns Inv-loop μ-loop
 returns c =
     let a = c .before .before .before .before .args in
     let l = c .before .loop in
-    let e : l .i ≡ a .end = omega arith in (
-      subst (λ i. WrittenAgain (later (a .period)) (a .count) (a .n) i (a .instants .now) (l .instants)) e (l .inv .1 .0),
-      subst (λ i. WrittenAgain same (a .count) (a .n) i (a .octets .now) (l .octets)) e (l .inv .1 .1),
+    let e : l .done ≡ a .end = omega (arith, l .inv .upto) in (
+      subst (λ i. WrittenAgain (later (a .period)) (a .count) (a .n) i (a .instants .now) (l .instants)) e (l .inv .instants),
+      subst (λ i. WrittenAgain same (a .count) (a .n) i (a .octets .now) (l .octets)) e (l .inv .octets),
     )
 
 pub repeat-spec : {M : Type 1} → statement M
@@ -89,15 +75,11 @@ repeat-spec =
     Inv-loop
     μ-loop
     loop-holds
-    sub-from
-    mul-wrapping-add-u64
-    slice-read-wrapping-add-u64
+    places-on-requires
+    repeat-later-requires
+    repeat-same-requires
+    wrapping-add-usize-requires
     wrapping-add-u64-requires
-    mul-instants
-    slice-write-instants
-    slice-read-octets
-    slice-write-octets
-    add-i
     loop-less
     loop-again
     same-length

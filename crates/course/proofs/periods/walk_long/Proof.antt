@@ -1,7 +1,7 @@
 -- `course::periods::walk_long` meets its contract: the first instant finds no room, or the round does not, or the stretch goes on after them by rounds.
 -- Assumes nothing.
 use native.Mathlib.Omega.{arith}
-use Rattle.course.proofs.ByPeriods.{base-runs, walkable-first, walkable-round, walkable-after, round-none, round-full, round-more}
+use Rattle.course.proofs.ByPeriods.{base-runs, reportable-first, reportable-round, reportable-after, round-none, round-full, round-more}
 use borrow.Author.Needs.{needs}
 use Rattle.course.proofs.periods.walk_long.Statement.{statement}
 use Rattle.course.proofs.periods.walk_long.Tie as tie
@@ -10,7 +10,7 @@ add-second : tie.Need-add-second
 add-second c = search needs
 
 walk-list-requires : tie.Need-walk-list-requires
-walk-list-requires c κs = let s = c .before .before .before .before in walkable-first (s .args .intervals .now) (s .args .s) (s .pre .0)
+walk-list-requires c κs = let s = c .before .before .before .before in reportable-first (s .args .intervals .now) (s .args .s) (s .pre .0)
 
 same-length : tie.Need-same-length
 same-length c = search needs
@@ -35,7 +35,7 @@ walk-list-requires-2 : tie.Need-walk-list-requires-2
 walk-list-requires-2 c κs =
     let s = c .before .before .before .before .before .before .before .before .before .before .before .before .before in
     let b = c .before .before .base-at in
-    walkable-round (s .args .intervals .now) (s .args .s) (s .pre .0) (s .pre .1) (b .result) (b .ensures)
+    reportable-round (s .args .intervals .now) (s .args .s) (s .pre .0) (s .pre .1) (b .result) (b .ensures)
 
 same-length-3 : tie.Need-same-length-3
 same-length-3 c = search needs
@@ -58,7 +58,7 @@ add-t33 c =
     let b = c .before .before .before .before .before .before .before .before in
     let s = b .before .before .before .before .before .before .before .before .before .before .before in
     let a = s .args .s in
-    let h = s .pre .0 in
+    let h = s .pre .0 .walkable in
     let z = base-runs (a .base) (a .period) (a .from) (b .base-at .result) (h .begun) (h .ahead) (b .base-at .ensures) in
     omega (arith, h .near, h .short, h .before)
 
@@ -66,7 +66,7 @@ walk-repeating-requires : tie.Need-walk-repeating-requires
 walk-repeating-requires c κs =
     let b = c .before .before .before .before .before .before .before .before .before .before in
     let s = b .before .before .before .before .before .before .before .before .before .before .before in
-    walkable-after (s .args .intervals .now) (s .args .s) (s .pre .0) (s .pre .1) (b .base-at .result) (b .base-at .ensures)
+    reportable-after (s .args .intervals .now) (s .args .s) (s .pre .0) (s .pre .1) (b .base-at .result) (b .base-at .ensures)
 
 same-length-5 : tie.Need-same-length-5
 same-length-5 c = search needs

@@ -2,7 +2,7 @@
 -- Assumes nothing.
 use Prim.Native.Nat.{_+_}
 use native.Mathlib.Omega.{arith}
-use Rattle.course.proofs.ByPeriods.{walkable-rest, repeated-edge, repeated-rest}
+use Rattle.course.proofs.ByPeriods.{reportable-rest, repeated-edge, repeated-rest}
 use borrow.Author.Needs.{needs}
 use Rattle.course.proofs.periods.walk_repeating.Statement.{statement}
 use Rattle.course.proofs.periods.walk_repeating.Tie as tie
@@ -44,7 +44,7 @@ walk-list-requires c κs =
     let a = s .args in
     let w = c .before .before .before .before .before .before .before .before .whole-periods in
     let e = w .ensures .stands in
-    walkable-rest (a .intervals .now) (a .s) (s .pre) (w .result .at + 1) (omega arith) (omega arith)
+    reportable-rest (a .intervals .now) (a .s) (s .pre) (w .result .at + 1) (omega arith) (omega arith)
 
 same-length-3 : tie.Need-same-length-3
 same-length-3 c = search needs

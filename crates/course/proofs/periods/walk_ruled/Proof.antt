@@ -24,7 +24,7 @@ same-length-2 c = search needs
 returns : tie.Need-returns
 returns c = let a = c .before .before .before .before .before .before .before .before .before .before .before .before .args in
     walks-uniform (a .octets .now) (a .intervals .now) (a .s) (a .before) (a .instants .now) (a .changed .now) (c .before .before .before .before .pass .result) _ _
-    (c .before .before .before .before .before .before .before .before .before .before .before .before .pre .some) (c .before .before .before .before .before .before .before .before .before .uniform .ensures (c .before .before .before .before .before .before .before .before .if1 .taken)) (c .before .before .before .before .pass .ensures)
+    (c .before .before .before .before .before .before .before .before .before .before .before .before .pre .walkable .some) (c .before .before .before .before .before .before .before .before .before .uniform .ensures (c .before .before .before .before .before .before .before .before .if1 .taken)) (c .before .before .before .before .pass .ensures)
 
 sub-if2 : tie.Need-sub-if2
 sub-if2 c = search needs

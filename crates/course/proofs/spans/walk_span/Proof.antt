@@ -2,7 +2,7 @@
 -- Assumes nothing.
 use mathlib.Core.Bool.{true, false}
 use Rattle.timetable.specs.declared.Timetable.{Timetable}
-use Rattle.course.proofs.BySpans.{span-flat, span-walkable, span-walks}
+use Rattle.course.proofs.BySpans.{span-flat, span-reportable, span-walks}
 use borrow.Author.Needs.{needs}
 use Rattle.course.proofs.spans.walk_span.Statement.{statement}
 use Rattle.course.proofs.spans.walk_span.Tie as tie
@@ -28,7 +28,7 @@ walk-ruled-requires c κs =
     let s = c .before .before .before .before .before .before in
     let a = s .args in
     let p : Timetable = record { times = a .x; octets = a .os .now; intervals = a .vs .now; newoctets = a .ws .now; newintervals = a .zs .now } in
-    span-walkable p (a .t) (a .span) (s .pre .1) (c .before .before .before .if1 .left) true (c .before .before .if2 .taken) (s .pre .0)
+    span-reportable p (a .t) (a .span) (s .pre .1) (c .before .before .before .if1 .left) true (c .before .before .if2 .taken) (s .pre .0)
 
 same-length-3 : tie.Need-same-length-3
 same-length-3 c = search needs
@@ -49,7 +49,7 @@ walk-ruled-requires-2 c κs =
     let s = c .before .before .before .before .before .before in
     let a = s .args in
     let p : Timetable = record { times = a .x; octets = a .os .now; intervals = a .vs .now; newoctets = a .ws .now; newintervals = a .zs .now } in
-    span-walkable p (a .t) (a .span) (s .pre .1) (c .before .before .before .if1 .left) false (c .before .before .if2 .left) (s .pre .0)
+    span-reportable p (a .t) (a .span) (s .pre .1) (c .before .before .before .if1 .left) false (c .before .before .if2 .left) (s .pre .0)
 
 same-length-5 : tie.Need-same-length-5
 same-length-5 c = search needs

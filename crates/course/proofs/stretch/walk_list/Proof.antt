@@ -5,8 +5,9 @@ use mathlib.Core.Path.{_≡_, refl}
 use Prim.Native.Nat.{_-_}
 use native.Mathlib.Omega.{arith}
 use lib.ListN.{length}
+use Rattle.timetable.proofs.Stretches.{stretch-advances, advances-less}
 use Rattle.course.specs.Stretch.{Keeps}
-use Rattle.course.proofs.ByEntries.{safe-start, safe-advances, advances-less, walks-list, keeps-full, keeps-edge, keeps-more}
+use Rattle.course.proofs.ByEntries.{keeps-start, walks-list, keeps-full, keeps-edge, keeps-more}
 use borrow.Author.Needs.{needs}
 use Rattle.course.proofs.stretch.walk_list.Statement.{statement}
 use Rattle.course.proofs.stretch.walk_list.Tie as tie
@@ -23,11 +24,7 @@ cursor-at-requires c κs = search needs
 
 loop-holds : tie.Need-loop-holds Inv-loop μ-loop
 loop-holds c = let a = c .before .before .before .args in (
-  record {
-    later = omega arith;
-    safe = safe-start (a .intervals .now) (a .s) (c .before .before .before .pre) (c .cursor-at .result) (c .cursor-at .ensures);
-    walked = λ j f y p w. (p, w);
-  },
+  keeps-start (a .intervals .now) (a .s) (c .before .before .before .pre) (c .cursor-at .result) (c .cursor-at .ensures) (a .octets .now) (a .before) (a .instants .now) (a .changed .now),
   (refl, refl),
 )
 
@@ -35,10 +32,13 @@ least-requires : tie.Need-least-requires Inv-loop μ-loop
 least-requires c κs = search needs
 
 element-copy-out-pass : tie.Need-element-copy-out-pass Inv-loop μ-loop
-element-copy-out-pass c = let h = c .before .loop .inv .0 .safe in let g = c .before .before .before .before .before .pre in omega arith
+element-copy-out-pass c = let h = c .before .loop .inv .0 .safe in let g = c .before .before .before .before .before .pre .walkable in omega arith
 
 pass-requires : tie.Need-pass-requires Inv-loop μ-loop
-pass-requires c κs = let h = c .before .before .before .before .loop .inv .0 .safe in omega (arith, c .before .before .before .least .ensures)
+pass-requires c κs =
+    let k = c .before .before .before .before .loop .inv .0 in
+    let h = k .safe in
+    omega (arith, k .first, c .before .before .before .least .ensures)
 
 same-length : tie.Need-same-length Inv-loop μ-loop
 same-length c = search needs
@@ -86,7 +86,7 @@ loop-less c =
     let a = s .args in
     let k = l .loop .inv .0 .safe in
     advances-less (a .intervals .now) (a .s .len) (a .s .period) (a .s .edge) (l .loop .c) (c .advance .result) k
-    (safe-advances (a .intervals .now) (a .s) (s .pre) (l .loop .c) k (omega arith) (c .advance .result) (c .advance .ensures))
+    (stretch-advances (a .intervals .now) (a .s) (s .pre .walkable) (l .loop .c) k (omega arith) (c .advance .result) (c .advance .ensures))
 
 loop-again : tie.Need-loop-again Inv-loop μ-loop
 loop-again c = (
@@ -98,7 +98,7 @@ loop-again c = (
       let m = l .loop in
       keeps-more (a .octets .now) (a .intervals .now) (a .s .len) (a .s .period) (a .s .edge) (l .before .cursor-at .result) (a .before) (a .instants .now) (a .changed .now)
       (m .c) (m .w) (m .instants) (m .changed) (m .inv .0) (u .result) (u .ensures) (p .result) _ _ (p .ensures) (c .before .before .before .if1 .left) (omega arith)
-      (c .advance .result) (safe-advances (a .intervals .now) (a .s) (s .pre) (m .c) (m .inv .0 .safe) (omega arith) (c .advance .result) (c .advance .ensures)),
+      (c .advance .result) (stretch-advances (a .intervals .now) (a .s) (s .pre .walkable) (m .c) (m .inv .0 .safe) (omega arith) (c .advance .result) (c .advance .ensures)),
   search needs,
 )
 

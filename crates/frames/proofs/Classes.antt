@@ -1,108 +1,157 @@
--- The choice of a frame by its parts. In order: durations; the longest head; the highest class and its frame; gates that stay open; the classes that qualify.
+-- The choice of a frame by its parts. In order: durations; what is asked for; the highest class and its frame; gates that stay open; the classes that qualify.
 -- Assumes nothing.
-use mathlib.Core.Path.{_≡_, refl, ap, sym, _∙_, subst}
-use mathlib.Core.Bool.{Bool, true, false, cond, _&&_, true≢false}
+use mathlib.Core.Path.{_≡_, refl, ap, ap₂, sym, _∙_}
+use mathlib.Core.Bool.{Bool, true, false, cond, _&&_, _||_, true≢false}
 use mathlib.Core.List.{List}
-use mathlib.Core.Option.{Option, none, some}
-use Prim.Native.Nat.{ℕ, zero, suc, _+_, _-_, _*_, _≤_, _<_, max}
-use native.Mathlib.Nat.{div-mul-le-self, le-div-iff-mul-le}
+use mathlib.Core.Option.{none, some}
+use Prim.Native.Nat.{ℕ, zero, suc, _+_, _-_, _*_, _/_, _^_, _≤_, _<_, max}
+use native.Mathlib.Nat.{div-eq-of-lt, le-div-iff-mul-le, div-lt-iff-lt-mul, pow-suc}
 use native.Mathlib.Omega.{arith}
+use lib.Bits.{bitAnd, bitOr}
+use lib.Count.{leadingZeros, leading-top}
 use lib.Dec.{eqb, leb}
-use lib.ListN.{getD}
+use lib.ListN.{length, getD, set}
+use lib.Pow.{pow-pos, pow-mono}
+use lib.Seq.{getD-set-same, getD-set-other}
 use borrow.Author.Tests.{leb-true, leb-false, eqb-true, eqb-false}
-use Rattle.rule.specs.Limits.{longestFrame, longestSpan}
+use Rattle.rule.specs.Limits.{longestSpan}
 use Rattle.rule.specs.Gates.{isOpen}
 use Rattle.rule.specs.Choice.{duration, staysOpen, qualifies, highest, frameFor, chosen}
+use Rattle.rule.specs.Orders.{speedOffered}
 use Rattle.rule.proofs.Sound.{duration-short}
-use Rattle.rule.proofs.Choice.{speed-range, Highest, highest-is, highest-same}
-use Rattle.frames.specs.Ahead.{never, ClosesAt, Closes}
-use Rattle.frames.specs.declared.choosing.Found.{Found}
-use Rattle.frames.specs.declared.choosing.Found.the-variants.{Class, Nobody}
+use Rattle.rule.proofs.Stretch.{open-still}
+use Rattle.rule.proofs.Choice.{by-speed, speed-range, highest-same}
+use Rattle.frames.specs.declared.ahead.Gates.{Gates}
+use Rattle.frames.specs.declared.Frame as declared
+use Rattle.frames.specs.Ahead.{Known, Tells}
 use Rattle.frames.specs.Frame.{encodeFrame, noFrame}
-use Rattle.frames.specs.Choosing.{Forms, headed, endsBy, Longest, Offered, foundOf}
-use Rattle.frames.proofs.Octets.{forms-at}
+use Rattle.frames.specs.Choosing.{Sets, headed, Asks, Offered, Begins}
+use Rattle.frames.proofs.Octets.{gate-and, gate-or, gate-none, forms-none, forms-more, forms-at}
 
 -- durations
 
-pub duration-range : (n v : ℕ) → n ≤ longestFrame → 10 ≤ v → v ≤ 1_000 → (64 ≤ duration n v) × (duration n v ≤ longestSpan)
+pub duration-times : (n v : ℕ) → speedOffered v ≡ true → (n + 8) * (8_000 / v) ≡ duration n v
 unfolding duration
-duration-range n v h k l = let pos : 0 < v = omega arith in (le-div-iff-mul-le pos .1 (omega arith), duration-short n v h k)
+duration-times n = by-speed (λ v. (n + 8) * (8_000 / v) ≡ (n + 8) * 8_000 / v) (omega arith) (omega arith) (omega arith)
 
-pub duration-mono : (m n v : ℕ) → m ≤ n → 0 < v → duration m v ≤ duration n v
-unfolding duration
-duration-mono m n v h p = le-div-iff-mul-le p .1 (omega (arith, div-mul-le-self ((m + 8) * 8_000) v))
+-- what is asked for
 
--- the longest head
+module _ (heads : List ℕ) (speed : ℕ) (o : Offered heads speed) where
+  pub length-short : (k : ℕ) → (getD heads k 0 + 8) * (8_000 / speed) ≤ longestSpan
+  length-short k =
+      let e = duration-times (getD heads k 0) speed (o .fast) in
+      let d = duration-short (getD heads k 0) speed (o .short k) (speed-range speed (o .fast) .0) in
+      omega arith
 
-pub longest-none : (octet : ℕ) (heads : List ℕ) → Longest octet heads 0 0
-longest-none octet heads = record { each = λ k h. absurd (omega arith); least = λ m f. omega arith }
+  pub asks-none : (t : ℕ) (ends : List ℕ) → Asks heads speed t 0 0 t ends
+  asks-none t ends = record {
+    formed = forms-none (headed heads);
+    each = λ k h. absurd (omega arith);
+    from = omega arith;
+    upto = λ k h e. absurd (omega arith);
+    near = omega arith;
+  }
 
-pub longest-more : (octet : ℕ) (heads : List ℕ) (n r x r′ : ℕ) → Longest octet heads n r → x ≡ cond (isOpen octet n) (getD heads n 0) 0 → r′ ≡ max r x
-    → Longest octet heads (n + 1) r′
-longest-more octet heads n r x r′ l e m = record {
-  each = λ k h o. pick k h o (eqb k n) refl;
-  least = λ b f. let z = l .least b f in let y = part b (f n) (isOpen octet n) e in omega arith;
-}
-  where
-    part : (b : ℕ) → getD heads n 0 ≤ b → (o : Bool) → x ≡ cond o (getD heads n 0) 0 → x ≤ b
-    part b h true q = omega arith
-    part b h false q = omega arith
+  pub asks-more : (t n wanted last : ℕ) (ends : List ℕ) → Asks heads speed t n wanted last ends → n < length ends → (w end until later : ℕ)
+      → end ≡ t + (getD heads n 0 + 8) * (8_000 / speed) → Sets n (headed heads n) wanted w → until ≡ cond (headed heads n) end t → later ≡ max last until
+      → Asks heads speed t (n + 1) w later (set ends n end)
+  asks-more t n wanted last ends a l w end until later e s p m =
+      let z = a .from in
+      let y = a .near in
+      let i : end ≤ t + longestSpan = omega (arith, length-short n) in
+      let j : until ≤ t + longestSpan = part (headed heads n) p in
+      record {
+        formed = forms-more (headed heads) n wanted w (headed heads n) (a .formed) refl s;
+        each = λ k h. each k h (eqb k n) refl;
+        from = omega arith;
+        upto = λ k h q. upto k h q (eqb k n) refl;
+        near = omega arith;
+      }
+    where
+      part : (b : Bool) → until ≡ cond b end t → until ≤ t + longestSpan
+      part true q = omega (arith, length-short n)
+      part false q = omega arith
 
-    pick : (k : ℕ) → k < n + 1 → isOpen octet k ≡ true → (t : Bool) → eqb k n ≡ t → getD heads k 0 ≤ r′
-    pick k h o true z =
-        let w : k ≡ n = eqb-true k n z in
-        let y : x ≡ getD heads k 0 = e ∙ ap (λ j. cond (isOpen octet j) (getD heads j 0) 0) (sym w) ∙ ap (λ b. cond b (getD heads k 0) 0) o in
-        omega arith
-    pick k h o false z = let w = eqb-false k n z in let y = l .each k (omega arith) o in omega arith
+      each : (k : ℕ) → k < n + 1 → (b : Bool) → eqb k n ≡ b → getD (set ends n end) k 0 ≡ t + duration (getD heads k 0) speed
+      each k h true z =
+          let c : k ≡ n = eqb-true k n z in
+          ap (λ i. getD (set ends n end) i 0) c ∙ getD-set-same ends n end 0 l ∙ e
+          ∙ ap (λ d. t + d) (duration-times (getD heads n 0) speed (o .fast)) ∙ ap (λ i. t + duration (getD heads i 0) speed) (sym c)
+      each k h false z = let c = eqb-false k n z in getD-set-other ends n k end 0 c ∙ a .each k (omega arith)
+
+      upto : (k : ℕ) → k < n + 1 → headed heads k ≡ true → (b : Bool) → eqb k n ≡ b → getD (set ends n end) k 0 ≤ later
+      upto k h q true z =
+          let c : k ≡ n = eqb-true k n z in
+          let d : getD (set ends n end) k 0 ≡ end = ap (λ i. getD (set ends n end) i 0) c ∙ getD-set-same ends n end 0 l in
+          let u : until ≡ end = p ∙ ap (λ i. cond (headed heads i) end t) (sym c) ∙ ap (λ b. cond b end t) q in
+          omega arith
+      upto k h q false z =
+          let c = eqb-false k n z in
+          let d = getD-set-other ends n k end 0 c in
+          omega (arith, a .upto k (omega arith) q)
 
 -- the highest class
 
 module _ (q : ℕ → Bool) where
-  pub highest-found : (k : ℕ) → 0 < k → q (k - 1) ≡ true → highest q k ≡ some (k - 1)
+  highest-empty : (n : ℕ) → ((j : ℕ) → j < n → q j ≡ false) → highest q n ≡ none
   unfolding highest
-  highest-found k h e = let z : k ≡ suc (k - 1) = omega arith in ap (highest q) z ∙ rw e
+  highest-empty zero f = refl
+  highest-empty (suc n) f = rw (f n (omega arith)) (highest-empty n (λ j h. f j (omega arith)))
 
-  pub highest-skip : (k : ℕ) → 0 < k → q (k - 1) ≡ false → highest q k ≡ highest q (k - 1)
+  highest-of : (k n : ℕ) → k < n → q k ≡ true → ((j : ℕ) → k < j → j < n → q j ≡ false) → highest q n ≡ some k
   unfolding highest
-  highest-skip k h e = let z : k ≡ suc (k - 1) = omega arith in ap (highest q) z ∙ rw e
+  highest-of k zero h e f = absurd (omega arith)
+  highest-of k (suc n) h e f = go (eqb k n) refl (λ l. highest-of k n l e (λ j a b. f j a (omega arith)))
+    where
+      go : (b : Bool) → eqb k n ≡ b → (k < n → highest q n ≡ some k) → cond (q n) (some n) (highest q n) ≡ some k
+      go true z i = let w : n ≡ k = sym (eqb-true k n z) in ap (λ b. cond b (some n) (highest q n)) (ap q w ∙ e) ∙ ap some w
+      go false z i =
+          let w = eqb-false k n z in
+          ap (λ b. cond b (some n) (highest q n)) (f n (omega arith) (omega arith)) ∙ i (omega arith)
 
-  pub highest-none : (k : ℕ) → k ≡ 0 → highest q k ≡ none
-  unfolding highest
-  highest-none k e = ap (highest q) e
+-- the leading zeros of an octet tell its highest class
+top-bit : (octet j : ℕ) → 2 ^ j ≤ octet → octet < 2 ^ suc j → j < 8 → highest (isOpen octet) 8 ≡ some j
+unfolding isOpen
+top-bit octet j a b h =
+    let d : octet / 2 ^ j ≡ 1 = one in
+    highest-of (isOpen octet) j 8 h (rw d) (λ k l m. rw (div-eq-of-lt (above k l)))
+  where
+    pos : 0 < 2 ^ j
+    pos = pow-pos j
 
--- the class found
+    one : octet / 2 ^ j ≡ 1
+    one =
+        let x : 1 ≤ octet / 2 ^ j = le-div-iff-mul-le pos .1 (omega arith) in
+        let y : octet / 2 ^ j < 2 = div-lt-iff-lt-mul pos .1 (omega (arith, pow-suc 2 j)) in
+        omega arith
 
-found-class : (o : Option ℕ) (k : ℕ) → foundOf o ≡ Class k → o ≡ some k
-found-class none k e = let z : _≡_ {A = ℕ} 0 1 = cc in absurd (omega arith)
-found-class (some j) k e = cc
+    above : (k : ℕ) → j < k → octet < 2 ^ k
+    above k l = omega (arith, pow-mono l)
 
-found-nobody : (o : Option ℕ) → foundOf o ≡ Nobody → o ≡ none
-found-nobody none e = refl
-found-nobody (some j) e = let z : _≡_ {A = ℕ} 0 1 = cc in absurd (omega arith)
+pub top-is : (octet : ℕ) → 0 < octet → octet < 256 → (leadingZeros 8 octet < 8) × (highest (isOpen octet) 8 ≡ some (7 - leadingZeros 8 octet))
+top-is octet p h =
+    let t = leading-top 8 octet p h in
+    let j : ℕ = t .0 in
+    let e : j ≡ 7 - leadingZeros 8 octet = omega (arith, t .1) in
+    (omega (arith, t .1), top-bit octet j (t .2) (t .3) (omega (arith, t .1)) ∙ ap some e)
 
-module _ (q : ℕ → Bool) (f : Found) (is : f ≡ foundOf (highest q 8)) where
-  pub class-small : (k : ℕ) → f ≡ Class k → k < 8
-  class-small k e = subst (Highest q 8) (found-class (highest q 8) k (sym is ∙ e)) (highest-is q 8) .0
+-- its frame
 
-  pub frame-class : (heads : List ℕ) (speed t k d : ℕ) → f ≡ Class k → d ≡ duration (getD heads k 0) speed
-      → record { present = 1; class = k; counted = 0; start = t; end = t + d } ≡ encodeFrame (frameFor heads speed t (highest q 8))
-  unfolding frameFor
-  frame-class heads speed t k d e m =
-      ap (λ n. record { present = 1; class = k; counted = 0; start = t; end = t + n }) m
-      ∙ sym (ap (λ o. encodeFrame (frameFor heads speed t o)) (found-class (highest q 8) k (sym is ∙ e)))
+pub begins-none : (octet : ℕ) (ends : List ℕ) (t : ℕ) → octet ≡ 0 → Begins octet ends t noFrame
+unfolding frameFor
+begins-none octet ends t z heads speed f =
+    sym (ap (λ o. encodeFrame (frameFor heads speed t o)) (highest-empty (isOpen octet) 8 (λ j h. ap (λ n. isOpen n j) z ∙ gate-none j)))
 
-  pub frame-nobody : (heads : List ℕ) (speed t : ℕ) → f ≡ Nobody → noFrame ≡ encodeFrame (frameFor heads speed t (highest q 8))
-  unfolding frameFor
-  frame-nobody heads speed t e = sym (ap (λ o. encodeFrame (frameFor heads speed t o)) (found-nobody (highest q 8) (sym is ∙ e)))
+pub begins-top : (octet : ℕ) (ends : List ℕ) (t k : ℕ) → k < 8 → highest (isOpen octet) 8 ≡ some k
+    → Begins octet ends t (record { present = 1; class = k; counted = 0; start = t; end = getD ends k 0 })
+unfolding frameFor
+begins-top octet ends t k h e heads speed f =
+    ap (λ n. record { present = 1; class = k; counted = 0; start = t; end = n }) (f k h)
+    ∙ sym (ap (λ o. encodeFrame (frameFor heads speed t o)) e)
 
 -- gates that stay open
 
 module _ (g : ℕ → ℕ) (k : ℕ) where
-  stays-all : (t n : ℕ) → ((v : ℕ) → t ≤ v → v < t + n → isOpen (g v) k ≡ true) → staysOpen g k t n ≡ true
-  unfolding staysOpen
-  stays-all t zero f = refl
-  stays-all t (suc n) f = rw (f t (omega arith) (omega arith)) (stays-all (suc t) n (λ v a b. f v (omega arith) (omega arith)))
-
   stays-not : (t n v : ℕ) → t ≤ v → v < t + n → isOpen (g v) k ≡ false → staysOpen g k t n ≡ false
   unfolding staysOpen
   stays-not t zero v a b e = absurd (omega arith)
@@ -114,41 +163,54 @@ module _ (g : ℕ → ℕ) (k : ℕ) where
       go true z true o f = let w : t ≡ v = sym (eqb-true v t z) in absurd (true≢false (sym o ∙ ap (λ u. isOpen (g u) k) w ∙ e))
       go false z true o f = let w = eqb-false v t z in f (omega arith)
 
-  -- a frame of d ns, begun at t, that ends by last: the gate stays open if its end is no later than the closing
-  closes-stays : (t last at d : ℕ) → ClosesAt g k t last at → t + d ≤ last → t + d ≤ never → staysOpen g k t d ≡ leb (t + d) at
-  closes-stays t last at d c h m = go (leb (t + d) at) refl
+  -- open from t to before at, and closed then: open to before e, if that is no later
+  pub stays-met : (t e at : ℕ) → t ≤ at → ((v : ℕ) → t ≤ v → v < at → isOpen (g v) k ≡ true) → isOpen (g at) k ≡ false → staysOpen g k t (e - t) ≡ leb e at
+  stays-met t e at l f s = go (leb e at) refl
     where
-      go : (b : Bool) → leb (t + d) at ≡ b → staysOpen g k t d ≡ b
-      go true z = let w = leb-true (t + d) at z in stays-all t d (λ v x y. c .stays v x (omega arith) (omega arith))
-      go false z =
-          let w = leb-false (t + d) at z in
-          let s = c .shut (omega arith) in
-          stays-not t d at (s .0) w (s .1)
+      go : (b : Bool) → leb e at ≡ b → staysOpen g k t (e - t) ≡ b
+      go true z = let w = leb-true e at z in open-still g k t (e - t) (λ v x y. f v x (omega arith))
+      go false z = let w = leb-false e at z in stays-not t (e - t) at l (omega arith) s
 
--- the classes that qualify
+-- the classes that qualify, by what a walk to the last frame's end knows
 
-module _ (heads : List ℕ) (speed t : ℕ) (g : ℕ → ℕ) (o : Offered heads speed) (w len last : ℕ) (closing : List ℕ)
-    (early : t + longestSpan ≤ never) (wants : Forms (headed heads) 8 w) (long : Longest w heads 8 len) (ends : last ≡ t + duration len speed)
-    (closes : Closes g t last w closing) where
-  pub qualifies-is : (k : ℕ) → k < 8 → endsBy heads speed t w closing k ≡ qualifies heads speed t g k
-  unfolding qualifies Closes
-  qualifies-is k h = go (headed heads k) (forms-at (headed heads) w wants k h)
+module _ (heads : List ℕ) (speed t : ℕ) (h : ℕ → ℕ) (wanted last : ℕ) (ends : List ℕ) (a : Asks heads speed t 8 wanted last ends) (g : Gates)
+    (told : Tells h t last wanted ends g) where
+  abbrev fits : ℕ
+  fits = bitAnd (bitOr (g .left) (g .ended)) wanted
+
+  fits-is : (k : ℕ) → k < 8 → isOpen fits k ≡ qualifies heads speed t h k
+  unfolding qualifies Tells
+  fits-is k l =
+      gate-and (bitOr (g .left) (g .ended)) wanted k ∙ ap₂ (λ x y. x && y) (gate-or (g .left) (g .ended) k) w
+      ∙ go (headed heads k) refl
     where
-      stays : isOpen w k ≡ true → staysOpen g k t (duration (getD heads k 0) speed) ≡ leb (t + duration (getD heads k 0) speed) (getD closing k 0)
-      stays e =
-          let v = speed-range speed (o .fast) in
-          let r = duration-range (getD heads k 0) speed (o .short k) (v .0) (v .1) in
-          let m = duration-mono (getD heads k 0) len speed (long .each k h e) (omega (arith, v .0)) in
-          closes-stays g k t last (getD closing k 0) (duration (getD heads k 0) speed) (closes k h e) (omega arith) (omega (arith, r .1))
+      w : isOpen wanted k ≡ headed heads k
+      w = forms-at (headed heads) wanted (a .formed) k l
 
-      go : (a : Bool) → isOpen w k ≡ a
-          → isOpen w k && leb (t + duration (getD heads k 0) speed) (getD closing k 0) ≡ a && staysOpen g k t (duration (getD heads k 0) speed)
-      go true e = ap (λ x. x && leb (t + duration (getD heads k 0) speed) (getD closing k 0)) e ∙ sym (stays e)
-      go false e = rw e
+      d : ℕ
+      d = duration (getD heads k 0) speed
 
--- the frame of the highest class of the octet that qualifies is the one that is chosen
-pub chosen-by : (heads : List ℕ) (speed t : ℕ) (g : ℕ → ℕ) (q : ℕ) → Forms (qualifies heads speed t g) 8 q
-    → frameFor heads speed t (highest (isOpen q) 8) ≡ chosen heads speed t g
-unfolding chosen
-chosen-by heads speed t g q f =
-    ap (frameFor heads speed t) (highest-same (isOpen q) (qualifies heads speed t g) 8 (forms-at (qualifies heads speed t g) q f))
+      whole : headed heads k ≡ true → (x y : Bool) → Known h k t last (getD ends k 0) y x → x || y ≡ staysOpen h k t (getD ends k 0 - t)
+      whole z true y q = sym (open-still h k t (getD ends k 0 - t) (λ v i j. q .stays v i (omega (arith, a .upto k l z))))
+      whole z false y q = q
+
+      go : (b : Bool) → headed heads k ≡ b → (isOpen (g .left) k || isOpen (g .ended) k) && headed heads k ≡ headed heads k && staysOpen h k t d
+      go true z =
+          rw z (last-and (isOpen (g .left) k || isOpen (g .ended) k)
+          ∙ whole z (isOpen (g .left) k) (isOpen (g .ended) k) (told k l (w ∙ z))
+          ∙ ap (staysOpen h k t) (omega (arith, a .each k l)))
+        where
+          last-and : (x : Bool) → x && true ≡ x
+          last-and true = refl
+          last-and false = refl
+      go false z = rw z (none (isOpen (g .left) k || isOpen (g .ended) k))
+        where
+          none : (x : Bool) → x && false ≡ false
+          none true = refl
+          none false = refl
+
+  -- the frame of the highest of them is the one that is chosen
+  pub chosen-by : (r : declared.Frame) → Begins fits ends t r → r ≡ encodeFrame (chosen heads speed t h)
+  unfolding chosen
+  chosen-by r b =
+      b heads speed (a .each) ∙ ap (λ o. encodeFrame (frameFor heads speed t o)) (highest-same (isOpen fits) (qualifies heads speed t h) 8 fits-is)

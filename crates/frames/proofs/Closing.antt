@@ -1,141 +1,120 @@
--- When gates close. In order: instants set one by one; an octet shown; what a walk knows; a stretch; a span; what the look ahead may be asked of.
+-- When gates close. In order: an octet shown; what a walk knows; the rest of a cycle, entry by entry; a stretch; a span; what the look ahead may be asked of.
 -- Assumes nothing.
 use mathlib.Core.Path.{_≡_, refl, ap, sym, _∙_, subst, subst⁻¹}
-use mathlib.Core.Bool.{Bool, true, false, cond, not, _&&_}
-use mathlib.Core.List.{List}
+use mathlib.Core.Bool.{Bool, true, false, cond, not, _&&_, _||_, true≢false}
+use mathlib.Core.List.{List, []}
 use Prim.Native.Nat.{ℕ, zero, suc, _+_, _-_, _≤_, _<_, min}
 use native.Mathlib.Omega.{arith}
-use lib.Bits.{bitAnd, bitXor}
-use lib.Dec.{leb, ltb, eqb}
-use lib.ListN.{length, getD, set, replicate, length-set, getD-replicate}
-use lib.Seq.{getD-set-same, getD-set-other}
-use borrow.Author.Tests.{leb-true, leb-false, ltb-true, ltb-false, eqb-true, eqb-false}
+use lib.Bits.{bitAnd, bitOr, bitXor}
+use lib.Dec.{leb, ltb}
+use lib.ListN.{getD}
+use borrow.Author.Tests.{leb-true, leb-false, ltb-true, ltb-false, lt-ltb, le-ltb}
 use Rattle.rule.specs.Limits.{largestInstant, largestCycle}
 use Rattle.rule.specs.Gates.{isOpen}
-use Rattle.rule.specs.Cycle.{Config, Valid, plainOctet}
+use Rattle.rule.specs.Entries.{octetAt}
+use Rattle.rule.specs.Cycle.{Config, Valid, plainStart, plainOctet}
 use Rattle.rule.specs.Timetable.{shown}
-use Rattle.rule.proofs.Regime.{Rules, rules-inside}
-use Rattle.gatelist.specs.Coding.{listOf}
+use Rattle.rule.proofs.Regime.{Rules, rules-inside, same-start, next-own}
+use Rattle.gatelist.specs.declared.Place.{Place}
+use Rattle.gatelist.specs.Coding.{entriesFrom, listOf}
+use Rattle.gatelist.specs.Lookup.{sumTo, placeAt}
+use Rattle.gatelist.proofs.Lookup.{sum-more, Holds, holds-number, number-holds, number-octet}
 use Rattle.timetable.specs.declared.Times.{Times}
 use Rattle.timetable.specs.declared.Timetable.{Timetable}
 use Rattle.timetable.specs.declared.ruling.Span.{Span}
-use Rattle.timetable.specs.declared.cursor.Cursor.{Cursor}
 use Rattle.timetable.specs.declared.cursor.Stretch.{Stretch}
 use Rattle.timetable.specs.Coding.{decode, Fine}
 use Rattle.timetable.specs.Regime.{spanAt, Governs}
-use Rattle.timetable.specs.Cursor.{Placed, Points, Advances}
-use Rattle.timetable.specs.Stretch.{Walkable, Plays}
+use Rattle.timetable.specs.Stretch.{Walkable, Plays, Runs}
 use Rattle.timetable.proofs.Spans.{InTime, governs}
-use Rattle.timetable.proofs.Pointing.{points-octet}
-use Rattle.timetable.proofs.Stretches.{points-start, from-stop, safe-next, points-next, plain-round}
+use Rattle.timetable.proofs.Stretches.{plain-round}
 use Rattle.timetable.proofs.Records.{listIn, isThere, in-time, list-fine, list-used, table-flat, table-ruled}
 use Rattle.frames.specs.declared.ahead.Gates.{Gates}
-use Rattle.frames.specs.Ahead.{never, Stamps, Narrows, Known, Tells, ClosesAt, Closes, Readable, ClosesList, Watches, Spans, ClosesSpan}
-use Rattle.frames.proofs.Octets.{gate-and, gate-less, gate-none}
-
--- instants set one by one
-
--- those of the classes before k are set, the others are as they were
-pub record Stamping (octet at : ℕ) (old : List ℕ) (k : ℕ) (new : List ℕ) : Type 0 where
-  pub within : k ≤ 8
-  pub long : length new ≡ 8
-  pub done : (j : ℕ) → j < k → getD new j 0 ≡ cond (isOpen octet j) at (getD old j 0)
-  pub rest : (j : ℕ) → k ≤ j → getD new j 0 ≡ getD old j 0
-
-module _ (octet at : ℕ) (old : List ℕ) (k : ℕ) (new : List ℕ) (s : Stamping octet at old k new) where
-  pub stamping-more : (x : ℕ) → k < 8 → x ≡ cond (isOpen octet k) at (getD new k 0) → Stamping octet at old (k + 1) (set new k x)
-  stamping-more x h e = record {
-    within = omega arith;
-    long = length-set new k x ∙ s .long;
-    done = λ j l. go j l (eqb j k) refl;
-    rest = λ j l. getD-set-other new k j x 0 (λ z. omega arith) ∙ s .rest j (omega arith);
-  }
-    where
-      go : (j : ℕ) → j < k + 1 → (b : Bool) → eqb j k ≡ b → getD (set new k x) j 0 ≡ cond (isOpen octet j) at (getD old j 0)
-      go j l true z =
-          let w : k ≡ j = sym (eqb-true j k z) in
-          ap (λ i. getD (set new k x) i 0) (sym w) ∙ getD-set-same new k x 0 (omega (arith, s .long)) ∙ e
-          ∙ ap (λ v. cond (isOpen octet k) at v) (s .rest k (omega arith)) ∙ ap (λ i. cond (isOpen octet i) at (getD old i 0)) w
-      go j l false z = let w = eqb-false j k z in getD-set-other new k j x 0 w ∙ s .done j (omega arith)
-
-  pub stamping-done : 8 ≤ k → Stamps octet at old new
-  stamping-done h j l = s .done j (omega arith)
+use Rattle.frames.specs.declared.ahead.Spot.{Spot}
+use Rattle.frames.specs.Choosing.{Forms}
+use Rattle.frames.specs.Ahead.{closedBy, Narrows, Known, Tells, reach, Cycles, Goes, Skips, Sweeps, SweepsList, Readable, Spans, SweepsSpan}
+use Rattle.frames.proofs.Octets.{gate-and, gate-or, gate-less, gate-none, forms-at}
+use Rattle.frames.proofs.Classes.{stays-met}
 
 -- an octet shown
 
 -- it closes none of the classes that are left
-pub narrows-none : (octet at : ℕ) (g : Gates) → bitAnd (g .left) octet ≡ g .left → Narrows octet at g g
-narrows-none octet at g e = record {
+pub narrows-none : (octet at : ℕ) (ends : List ℕ) (g : Gates) → bitAnd (g .left) octet ≡ g .left → Narrows octet at ends g g
+narrows-none octet at ends g e = record {
   left = λ k h. both k;
-  each = λ k h. sym (ap (λ b. cond b at (getD (g .closing) k 0)) (none (isOpen (g .left) k) (isOpen octet k) (both k)));
+  ended = λ k h. go (isOpen (g .ended) k) (isOpen (g .left) k) (isOpen octet k) (leb (getD ends k 0) at) (both k);
 }
   where
     both : (k : ℕ) → isOpen (g .left) k ≡ isOpen (g .left) k && isOpen octet k
     both k = ap (λ n. isOpen n k) (sym e) ∙ gate-and (g .left) octet k
 
-    none : (x y : Bool) → x ≡ x && y → x && not y ≡ false
-    none true true q = refl
-    none true false q = q
-    none false y q = refl
+    go : (w x y z : Bool) → x ≡ x && y → w ≡ w || (x && not y && z)
+    go true x y z q = refl
+    go false true true z q = refl
+    go false true false z q = absurd (true≢false q)
+    go false false y z q = refl
 
 -- it closes some of them
-pub narrows-some : (octet at : ℕ) (g : Gates) (l : List ℕ) → Stamps (bitXor (g .left) (bitAnd (g .left) octet)) at (g .closing) l
-    → Narrows octet at g (record { left = bitAnd (g .left) octet; closing = l })
-narrows-some octet at g l s = record {
+pub narrows-some : (octet at : ℕ) (ends : List ℕ) (g : Gates) (n : ℕ) → Forms (closedBy (bitXor (g .left) (bitAnd (g .left) octet)) ends at) 8 n
+    → Narrows octet at ends g (record { left = bitAnd (g .left) octet; ended = bitOr (g .ended) n })
+narrows-some octet at ends g n f = record {
   left = λ k h. gate-and (g .left) octet k;
-  each = λ k h. s k h ∙ ap (λ b. cond b at (getD (g .closing) k 0)) (gate-less (g .left) octet k);
+  ended = λ k h. gate-or (g .ended) n k
+      ∙ ap (λ b. isOpen (g .ended) k || b) (forms-at (closedBy (bitXor (g .left) (bitAnd (g .left) octet)) ends at) n f k h
+      ∙ ap (λ b. b && leb (getD ends k 0) at) (gate-less (g .left) octet k) ∙ last (isOpen (g .left) k) (not (isOpen octet k)) (leb (getD ends k 0) at));
 }
+  where
+    last : (x y z : Bool) → (x && y) && z ≡ x && y && z
+    last true y z = refl
+    last false y z = refl
 
-module _ (h : ℕ → ℕ) (t wanted : ℕ) where
-  pub tells-start : Tells h t t wanted (record { left = wanted; closing = replicate 8 never })
+-- what a walk knows
+
+module _ (h : ℕ → ℕ) (t wanted : ℕ) (ends : List ℕ) where
+  pub tells-start : Tells h t t wanted ends (record { left = wanted; ended = 0 })
   unfolding Tells
   tells-start k b o =
-      subst⁻¹ (λ x. Known h k t t (getD (replicate 8 never) k 0) x) o (record { unmet = getD-replicate 8 k never 0 b; stays = λ v x y. absurd (omega arith) })
+      subst⁻¹ (λ x. Known h k t t (getD ends k 0) (isOpen 0 k) x) o (record { unmet = gate-none k; stays = λ v x y. absurd (omega arith) })
 
-  -- the octet x is shown from u to before s
-  pub tells-more : (u s x : ℕ) (g r : Gates) → t ≤ u → u < s → ((v : ℕ) → u ≤ v → v < s → h v ≡ x) → Narrows x u g r → Tells h t u wanted g → Tells h t s wanted r
+  -- an octet x is shown from u to before s
+  pub tells-more : (u s x : ℕ) (g r : Gates) → t ≤ u → u < s → ((v : ℕ) → u ≤ v → v < s → h v ≡ x) → Narrows x u ends g r → Tells h t u wanted ends g
+      → Tells h t s wanted ends r
   unfolding Tells
   tells-more u s x g r a b f n p k l o =
-      subst⁻¹ (λ z. Known h k t s (getD (r .closing) k 0) z) (n .left k l)
-      (subst⁻¹ (λ z. Known h k t s z (isOpen (g .left) k && isOpen x k)) (n .each k l) (go (isOpen (g .left) k) (isOpen x k) refl (p k l o)))
+      subst⁻¹ (λ y. Known h k t s (getD ends k 0) (isOpen (r .ended) k) y) (n .left k l)
+      (subst⁻¹ (λ z. Known h k t s (getD ends k 0) z (isOpen (g .left) k && isOpen x k)) (n .ended k l)
+      (go (isOpen (g .left) k) (isOpen x k) refl (isOpen (g .ended) k) (p k l o)))
     where
-      go : (y z : Bool) → isOpen x k ≡ z → Known h k t u (getD (g .closing) k 0) y → Known h k t s (cond (y && not z) u (getD (g .closing) k 0)) (y && z)
-      go true true e q = record { unmet = q .unmet; stays = λ v c d. side v c d (ltb v u) refl }
+      go : (y z : Bool) → isOpen x k ≡ z → (w : Bool) → Known h k t u (getD ends k 0) w y
+          → Known h k t s (getD ends k 0) (w || (y && not z && leb (getD ends k 0) u)) (y && z)
+      go true true e w q = record { unmet = ap (λ c. c || false) (q .unmet); stays = λ v c d. side v c d (ltb v u) refl }
         where
           side : (v : ℕ) → t ≤ v → v < s → (w : Bool) → ltb v u ≡ w → isOpen (h v) k ≡ true
           side v c d true w = q .stays v c (ltb-true v u w)
           side v c d false w = ap (λ m. isOpen m k) (f v (ltb-false v u w) d) ∙ e
-      go true false e q = record { from = a; stays = q .stays; shut = ap (λ m. isOpen m k) (f u (omega arith) b) ∙ e }
-      go false z e q = q
+      go true false e w q =
+          ap (λ c. c || leb (getD ends k 0) u) (q .unmet)
+          ∙ sym (stays-met h k t (getD ends k 0) u a (q .stays) (ap (λ m. isOpen m k) (f u (omega arith) b) ∙ e))
+      go false z e w q = none w ∙ q
+        where
+          none : (c : Bool) → c || false ≡ c
+          none true = refl
+          none false = refl
 
   -- what is known up to u is known before; if no class is left, it is known for ever
-  pub tells-less : (u e : ℕ) (g : Gates) → e ≤ u → Tells h t u wanted g → Tells h t e wanted g
+  pub tells-less : (u e : ℕ) (g : Gates) → e ≤ u → Tells h t u wanted ends g → Tells h t e wanted ends g
   unfolding Tells
   tells-less u e g l p k b o = go (isOpen (g .left) k) (p k b o)
     where
-      go : (y : Bool) → Known h k t u (getD (g .closing) k 0) y → Known h k t e (getD (g .closing) k 0) y
+      go : (y : Bool) → Known h k t u (getD ends k 0) (isOpen (g .ended) k) y → Known h k t e (getD ends k 0) (isOpen (g .ended) k) y
       go true q = record { unmet = q .unmet; stays = λ v c d. q .stays v c (omega arith) }
       go false q = q
 
-  pub tells-all : (u e : ℕ) (g : Gates) → g .left ≡ 0 → Tells h t u wanted g → Tells h t e wanted g
+  pub tells-all : (u e : ℕ) (g : Gates) → g .left ≡ 0 → Tells h t u wanted ends g → Tells h t e wanted ends g
   unfolding Tells
   tells-all u e g z p k b o =
       let n : isOpen (g .left) k ≡ false = ap (λ m. isOpen m k) z ∙ gate-none k in
-      subst⁻¹ (λ y. Known h k t e (getD (g .closing) k 0) y) n (subst (λ y. Known h k t u (getD (g .closing) k 0) y) n (p k b o))
-
-  -- the closings, if what is left stays open before last
-  closes-by : (u last : ℕ) (g : Gates) → ((k : ℕ) → ((v : ℕ) → t ≤ v → v < u → isOpen (h v) k ≡ true) → (v : ℕ) → t ≤ v → v < last → isOpen (h v) k ≡ true)
-      → Tells h t u wanted g → Closes h t last wanted (g .closing)
-  unfolding Tells Closes
-  closes-by u last g f p k b o = go (isOpen (g .left) k) (p k b o)
-    where
-      go : (y : Bool) → Known h k t u (getD (g .closing) k 0) y → ClosesAt h k t last (getD (g .closing) k 0)
-      go true q = let n = q .unmet in record { stays = λ v c d e. f k (q .stays) v c d; shut = λ z. absurd (omega arith) }
-      go false q = record { stays = λ v c d e. q .stays v c e; shut = λ z. (q .from, q .shut) }
-
-  -- the walk came to last; or it came round, where h comes round too
-  pub closes-last : (u last : ℕ) (g : Gates) → last ≤ u → Tells h t u wanted g → Closes h t last wanted (g .closing)
-  closes-last u last g l = closes-by u last g (λ k f v c d. f v c (omega arith))
+      subst⁻¹ (λ y. Known h k t e (getD ends k 0) (isOpen (g .ended) k) y) n (subst (λ y. Known h k t u (getD ends k 0) (isOpen (g .ended) k) y) n (p k b o))
 
   -- the walk came round a cycle, from u on, and the cycles go on to an edge
   module _ (f : Config) (valid : Valid f) (u edge : ℕ) (later : t ≤ u) (started : f .start ≤ u)
@@ -152,11 +131,11 @@ module _ (h : ℕ → ℕ) (t wanted : ℕ) where
             let e : v ≡ (v - f .cycle) + f .cycle = omega arith in
             ap (λ m. isOpen (plainOctet f m) k) e ∙ ap (λ m. isOpen m k) (plain-round f valid (v - f .cycle) (omega arith)) ∙ i (omega arith)
 
-    pub tells-round : (e : ℕ) (g : Gates) → u + f .cycle ≤ e → e ≤ edge → Tells h t e wanted g → Tells h t edge wanted g
+    pub tells-round : (e : ℕ) (g : Gates) → u + f .cycle ≤ e → e ≤ edge → Tells h t e wanted ends g → Tells h t edge wanted ends g
     unfolding Tells
     tells-round e g l m p k b o = go (isOpen (g .left) k) (p k b o)
       where
-        go : (y : Bool) → Known h k t e (getD (g .closing) k 0) y → Known h k t edge (getD (g .closing) k 0) y
+        go : (y : Bool) → Known h k t e (getD ends k 0) (isOpen (g .ended) k) y → Known h k t edge (getD ends k 0) (isOpen (g .ended) k) y
         go true q = record { unmet = q .unmet; stays = λ v c d. side v c d (ltb v e) refl }
           where
             side : (v : ℕ) → t ≤ v → v < edge → (w : Bool) → ltb v e ≡ w → isOpen (h v) k ≡ true
@@ -167,55 +146,181 @@ module _ (h : ℕ → ℕ) (t wanted : ℕ) where
                 ∙ comes-round k v v (λ x i j. ap (λ n. isOpen n k) (sym (shows x i (omega arith))) ∙ q .stays x (omega arith) (omega arith)) (omega arith) (omega arith)
         go false q = q
 
--- a stretch, entry by entry
+-- the rest of a cycle, entry by entry
 
-module _ (os vs : List ℕ) (n period edge : ℕ) (c₀ : Cursor) (g₀ : Gates) (c : Cursor) (g r : Gates) (w : Watches os vs n period edge c₀ g₀ c g)
-    (x : Narrows (getD os (c .place) 0) (c .from) g r) where
-  -- the octet at the cursor's place is shown until it stops, or the edge comes
-  pub watched : (f : Config) → Plays f os vs n period → Points f vs n c₀ → (h : ℕ → ℕ) (t wanted : ℕ)
-      → ((v : ℕ) → c₀ .from ≤ v → v < edge → h v ≡ plainOctet f v) → t ≤ c₀ .from → Tells h t (c₀ .from) wanted g₀
-      → Tells h t (min (c .stop) edge) wanted r
-  watched f y p h t wanted s l z =
-      let q = w .told f y p h t wanted s l z in
-      let a = w .later in
-      let b = w .safe .after in
-      let d = w .safe .before in
-      tells-more h t wanted (c .from) (min (c .stop) edge) (getD os (c .place) 0) g r (omega arith) (omega arith)
-      (λ v i j. s v (omega arith) (omega arith) ∙ points-octet f (y .valid) os vs n (y .list) c (q .0) v i (omega arith)) x (q .1)
+-- an entry is shown from its beginning to its end, the last one on and on
+entry-shows : (os vs : List ℕ) (n base i v : ℕ) → i < n → base + sumTo vs i ≤ v → (i + 1 < n → v < base + sumTo vs i + getD vs i 0)
+    → octetAt (entriesFrom os vs 0 n) (v - base) ≡ getD os i 0
+entry-shows os vs n base i v a b c =
+    number-octet os vs n (v - base) (omega arith)
+    ∙ ap (λ k. getD os k 0) (holds-number os vs n (v - base) i (record { one = a; from = omega arith; upto = λ l. omega (arith, c l) }))
 
-  -- the next entry
-  pub watch-more : (d : Cursor) → c .stop < edge → Advances vs n period c d → Watches os vs n period edge c₀ g₀ d r
-  watch-more d b a =
-      let e = from-stop os vs n period edge c d (w .safe) b a in
-      let l = w .safe .after in
-      let m = w .later in
-      let i : min (c .stop) edge ≡ d .from = omega arith in
+pub tells-entry : (os vs : List ℕ) (n base i at limit t wanted : ℕ) (ends : List ℕ) (h : ℕ → ℕ) (g r : Gates) → i < n → base + sumTo vs i ≤ at
+    → (i + 1 < n → at < base + sumTo vs i + getD vs i 0) → at < limit → t ≤ at → Cycles h os vs n base at limit → Narrows (getD os i 0) at ends g r
+    → Tells h t at wanted ends g → Tells h t (reach n (i + 1) (base + sumTo vs i + getD vs i 0) limit) wanted ends r
+tells-entry os vs n base i at limit t wanted ends h g r a b c d l s w p = go (ltb (i + 1) n) refl
+  where
+    go : (x : Bool) → ltb (i + 1) n ≡ x → Tells h t (cond x (min (base + sumTo vs i + getD vs i 0) limit) limit) wanted ends r
+    go true z =
+        let y = c (ltb-true (i + 1) n z) in
+        tells-more h t wanted ends at (min (base + sumTo vs i + getD vs i 0) limit) (getD os i 0) g r l (omega arith)
+        (λ v j k. s v j (omega arith) ∙ entry-shows os vs n base i v a (omega arith) (λ _. omega arith)) w p
+    go false z =
+        let y = ltb-false (i + 1) n z in
+        tells-more h t wanted ends at limit (getD os i 0) g r l d
+        (λ v j k. s v j k ∙ entry-shows os vs n base i v a (omega arith) (λ q. absurd (omega arith))) w p
+
+module _ (os vs : List ℕ) (n limit : ℕ) (ends : List ℕ) where
+  pub goes-start : (place from : ℕ) (g : Gates) → place ≤ n → Goes os vs n place from limit ends g place from g
+  goes-start place from g l = record { after = omega arith; within = l; later = omega arith; sums = λ b e. e; told = λ h t wanted base lo c e a b p. p }
+
+  pub goes-on : (place from i u k at : ℕ) (g r s : Gates) → Goes os vs n place from limit ends g i u r → Goes os vs n i u limit ends r k at s
+      → Goes os vs n place from limit ends g k at s
+  goes-on place from i u k at g r s x y =
+      let a = x .after in
+      let b = y .after in
+      let c = x .later in
+      let d = y .later in
       record {
+        after = omega arith;
+        within = y .within;
         later = omega arith;
-        safe = safe-next os vs n period edge c d (w .safe) b a;
-        told = λ f y p h t wanted s q z. (
-          points-next os vs n period edge c d (w .safe) b a f y (w .told f y p h t wanted s q z .0),
-          subst (λ u. Tells h t u wanted r) i (watched f y p h t wanted s q z),
-        );
+        sums = λ base e. y .sums base (x .sums base e);
+        told = λ h t wanted base lo c e f l p.
+            y .told h t wanted base lo c (x .sums base e) (λ z. omega (arith, f (omega arith))) l (x .told h t wanted base lo c e f l p);
       }
 
--- a walk from the first cursor is the walk of the stretch
-pub closes-list : (os vs : List ℕ) (s : Stretch) (g : Gates) (c : Cursor) (r : Gates) → c .from ≡ s .from → Placed vs (s .len) (s .base) (s .base + s .period) c
-    → ((f : Config) → Plays f os vs (s .len) (s .period) → Points f vs (s .len) c → (h : ℕ → ℕ) (t wanted : ℕ)
-    → ((v : ℕ) → c .from ≤ v → v < s .edge → h v ≡ plainOctet f v) → t ≤ c .from → Tells h t (c .from) wanted g → Tells h t (s .edge) wanted r)
-    → ClosesList os vs s g r
-unfolding ClosesList
-closes-list os vs s g c r e p k f y x h t wanted j l z =
-    k f y (points-start vs s c e p f (y .cycle) x) h t wanted (λ v a b. j v (omega arith) b) (omega arith) (subst⁻¹ (λ u. Tells h t u wanted g) e z)
+  -- the entry at i begins, and the octet of it is shown
+  pub goes-more : (place from i u : ℕ) (g r s : Gates) → Goes os vs n place from limit ends g i u r → i < n → u < limit → 0 < getD vs i 0
+      → Narrows (getD os i 0) u ends r s → (x : ℕ) → x ≡ getD vs i 0 → Goes os vs n place from limit ends g (i + 1) (u + x) s
+  goes-more place from i u g r s w a b z y x q =
+      let l = w .later in
+      let m = w .after in
+      record {
+        after = omega arith;
+        within = omega arith;
+        later = omega arith;
+        sums = λ base e. omega (arith, w .sums base e, sum-more vs i);
+        told = λ h t wanted base lo c e f d p.
+            let o : base + sumTo vs i ≡ u = w .sums base e in
+            let k : lo ≤ from = f (omega arith) in
+            subst (λ v. Tells h t (reach n (i + 1) v limit) wanted ends s) (omega arith)
+            (tells-entry os vs n base i u limit t wanted ends h r s a (omega arith) (λ _. omega arith) b (omega arith) (λ v j. c v (omega arith)) y
+            (subst (λ v. Tells h t v wanted ends r) here (w .told h t wanted base lo c e f d p)));
+      }
+    where
+      here : reach n i u limit ≡ u
+      here = ap (λ x. cond x (min u limit) limit) (lt-ltb i n a) ∙ omega arith
+
+  -- it has come to the limit, or to the end of the list, or no class is left
+  module _ (place from i u : ℕ) (g r : Gates) (w : Goes os vs n place from limit ends g i u r) where
+    pub sweeps-limit : limit ≤ u → Sweeps os vs n place from limit ends g r
+    unfolding Sweeps
+    sweeps-limit l h t wanted base lo c e f d p = subst (λ v. Tells h t v wanted ends r) (go (ltb i n)) (w .told h t wanted base lo c e f d p)
+      where
+        go : (x : Bool) → cond x (min u limit) limit ≡ limit
+        go true = omega arith
+        go false = refl
+
+    pub sweeps-end : n ≤ i → Sweeps os vs n place from limit ends g r
+    unfolding Sweeps
+    sweeps-end l h t wanted base lo c e f d p =
+        subst (λ v. Tells h t v wanted ends r) (ap (λ x. cond x (min u limit) limit) (le-ltb i n l)) (w .told h t wanted base lo c e f d p)
+
+    pub sweeps-none : r .left ≡ 0 → Sweeps os vs n place from limit ends g r
+    unfolding Sweeps
+    sweeps-none z h t wanted base lo c e f d p = tells-all h t wanted ends (reach n i u limit) limit r z (w .told h t wanted base lo c e f d p)
+
+-- over entries that close no class of an octet
+
+module _ (os vs : List ℕ) (n place from limit left : ℕ) where
+  pub skips-start : place ≤ n → Skips os vs n place from limit left (record { place = place; at = from })
+  unfolding Skips
+  skips-start l ends g e = goes-start os vs n limit ends place from g l
+
+  pub skips-more : (i u : ℕ) → Skips os vs n place from limit left (record { place = i; at = u }) → i < n → u < limit → 0 < getD vs i 0
+      → bitAnd left (getD os i 0) ≡ left → (x : ℕ) → x ≡ getD vs i 0 → Skips os vs n place from limit left (record { place = i + 1; at = u + x })
+  unfolding Skips
+  skips-more i u s a b z c x q ends g e =
+      goes-more os vs n limit ends place from i u g g g (s ends g e) a b z
+      (narrows-none (getD os i 0) u ends g (ap (λ m. bitAnd m (getD os i 0)) e ∙ c ∙ sym e)) x q
+
+  pub skips-after : (s : Spot) → Skips os vs n place from limit left s → place ≤ s .place
+  unfolding Skips
+  skips-after s k = k [] (record { left = left; ended = 0 }) refl .after
+
+pub goes-skips : (os vs : List ℕ) (n limit : ℕ) (ends : List ℕ) (place from i u : ℕ) (g r : Gates) → Goes os vs n place from limit ends g i u r → (s : Spot)
+    → Skips os vs n i u limit (r .left) s → Goes os vs n place from limit ends g (s .place) (s .at) r
+unfolding Skips
+goes-skips os vs n limit ends place from i u g r w s k = goes-on os vs n limit ends place from i u (s .place) (s .at) g r r w (k ends r refl)
+
+-- a stretch: what is left of the cycle that runs, and the beginning of the next one
+
+pub place-holds : (vs : List ℕ) (n o : ℕ) → 1 ≤ n → (p : Place) → p ≡ placeAt vs n o
+    → Holds vs n o (p .number) × (p .start ≡ sumTo vs (p .number))
+unfolding placeAt
+place-holds vs n o h p e =
+    subst⁻¹ (λ (q : Place). Holds vs n o (q .number) × (q .start ≡ sumTo vs (q .number))) e (number-holds [] vs n o h, refl)
+
+module _ (os vs : List ℕ) (s : Stretch) (w : Walkable vs s) (short : s .edge ≤ s .from + s .period) (ends : List ℕ) (limit : ℕ)
+    (is : limit ≡ min (s .base + s .period) (s .edge)) (p : Place) (found : p ≡ placeAt vs (s .len) (s .from - s .base)) (x : ℕ)
+    (long : x ≡ getD vs (p .number) 0) (g b d : Gates) (first : Narrows (getD os (p .number) 0) (s .from) ends g b)
+    (rest : Sweeps os vs (s .len) (p .number + 1) (s .base + p .start + x) limit ends b d) where
+  module _ (f : Config) (plays : Plays f os vs (s .len) (s .period)) (runs : Runs f s) (h : ℕ → ℕ) (t wanted : ℕ)
+      (shows : (v : ℕ) → s .from ≤ v → v < s .edge → h v ≡ plainOctet f v) (later : t ≤ s .from) (told : Tells h t (s .from) wanted ends g) where
+    cycle-shows : (start v : ℕ) → plainStart f v ≡ start → s .from ≤ v → v < s .edge → h v ≡ octetAt (entriesFrom os vs 0 (s .len)) (v - start)
+    unfolding plainOctet
+    cycle-shows start v e a c = shows v a c ∙ (λ i. octetAt (plays .list i) (v - e i))
+
+    first-cycle : Tells h t limit wanted ends d
+    unfolding Sweeps
+    first-cycle =
+        let k = place-holds vs (s .len) (s .from - s .base) (w .some) p found in
+        let l = w .begun in
+        let y = w .ahead in
+        let z = w .before in
+        let m = k .0 .from in
+        let e = k .1 in
+        let r = runs .base in
+        let q = plays .cycle in
+        let c : Cycles h os vs (s .len) (s .base) (s .from) limit =
+        (λ v i j. cycle-shows (s .base) v (same-start f (plays .valid) (s .from) v (runs .started) (omega arith) (omega arith) ∙ r) i (omega arith)) in
+        rest h t wanted (s .base) (s .from) c (omega (arith, sum-more vs (p .number))) (λ l. omega (arith, k .0 .upto l)) later
+        (subst (λ v. Tells h t (reach (s .len) (p .number + 1) v limit) wanted ends b) (omega arith)
+        (tells-entry os vs (s .len) (s .base) (p .number) (s .from) limit t wanted ends h g b (k .0 .one) (omega arith) (λ l. omega (arith, k .0 .upto l)) (omega arith) later c
+        first told))
+
+    second-cycle : s .base + s .period < s .edge → (r : Gates) → Sweeps os vs (s .len) 0 (s .base + s .period) (s .edge) ends d r → Tells h t (s .edge) wanted ends r
+    unfolding Sweeps sumTo
+    second-cycle l r k =
+        let next : ℕ = s .base + s .period in
+        let x = w .begun in
+        let y = w .ahead in
+        let a = runs .started in
+        let e = runs .base in
+        let q = plays .cycle in
+        let n : plainStart f next ≡ next = ap (λ v. plainStart f v) (omega arith) ∙ next-own f (plays .valid) (s .from) ∙ omega arith in
+        let c : Cycles h os vs (s .len) next next (s .edge) =
+        (λ v i j. cycle-shows next v (same-start f (plays .valid) next v (omega arith) (omega arith) (omega arith) ∙ n) (omega arith) j) in
+        k h t wanted next next c (omega arith) (λ _. omega arith) (omega arith)
+        (subst (λ v. Tells h t v wanted ends d) (omega arith ∙ sym (ap (λ o. cond o (min next (s .edge)) (s .edge)) (lt-ltb 0 (s .len) (omega (arith, w .some))))) first-cycle)
+
+  pub list-first : s .edge ≤ s .base + s .period → SweepsList os vs s ends g d
+  unfolding SweepsList
+  list-first l f y x h t wanted j k z = subst (λ v. Tells h t v wanted ends d) (omega arith) (first-cycle f y x h t wanted j k z)
+
+  pub list-second : s .base + s .period < s .edge → (r : Gates) → Sweeps os vs (s .len) 0 (s .base + s .period) (s .edge) ends d r → SweepsList os vs s ends g r
+  unfolding SweepsList
+  list-second l r k f y x h t wanted j m z = second-cycle f y x h t wanted j m z l r k
 
 -- a span
 
-module _ (g : Timetable) (t edge : ℕ) (r : Span) (s : Spans (g .times) t edge r) (b d : Gates) where
-  pub closes-flat : r .flat ≡ true → Narrows (g .times .standing) t b d → ClosesSpan g t edge b d
-  unfolding ClosesSpan
-  closes-flat e n u wanted l p =
+module _ (g : Timetable) (t edge : ℕ) (r : Span) (s : Spans (g .times) t edge r) (ends : List ℕ) (b d : Gates) where
+  pub span-flat : r .flat ≡ true → Narrows (g .times .standing) t ends b d → SweepsSpan g t edge ends b d
+  unfolding SweepsSpan
+  span-flat e n u wanted l p =
       let i = s .upto in
-      tells-more (shown (decode g)) u wanted t edge (g .times .standing) b d l (s .after)
+      tells-more (shown (decode g)) u wanted ends t edge (g .times .standing) b d l (s .after)
       (λ v x y. table-flat g t r (s .governs) e v x (omega arith)) n p
 
   module _ (k : Readable g) (e : r .flat ≡ false) (new : Bool) (q : r .new ≡ new) (stop : ℕ) (is : stop ≡ min edge (t + r .period)) where
@@ -228,42 +333,44 @@ module _ (g : Timetable) (t edge : ℕ) (r : Span) (s : Spans (g .times) t edge 
     there : isThere (g .times) new ≡ true
     there = subst (λ x. isThere (g .times) x ≡ true) q (s .governs .there e)
 
-    pub walkable : Walkable (listIn g new .intervals) stretchOf
+    pub walkable : Walkable (listIn g new .intervals) stretchOf × (stop ≤ t + r .period)
     walkable =
         let l = k .lists new there in
         let i = rules-inside (shown (decode g)) (listOf (listIn g new)) (r .period) (r .start) t (r .edge) ruled in
         let a = s .after in
         let n = s .near in
-        let h = s .governs .short e in
-        record {
-          some = l .0 .0;
-          few = l .0 .1;
-          used = l .1;
-          begun = i .0;
-          ahead = i .1;
-          before = omega (arith, i .0, i .1);
-          near = omega arith;
-          short = h;
-        }
+        let h = s .governs .short e in (
+          record {
+            some = l .0 .0;
+            few = l .0 .1;
+            used = l .1;
+            begun = i .0;
+            ahead = i .1;
+            before = omega (arith, i .0, i .1);
+            near = omega arith;
+            short = h;
+          },
+          omega arith,
+        )
 
-    pub closes-ruled : ClosesList (listIn g new .octets) (listIn g new .intervals) stretchOf b d → ClosesSpan g t edge b d
-    unfolding ClosesSpan ClosesList ruled
-    closes-ruled c u wanted l p =
+    pub span-ruled : SweepsList (listIn g new .octets) (listIn g new .intervals) stretchOf ends b d → SweepsSpan g t edge ends b d
+    unfolding SweepsSpan SweepsList ruled
+    span-ruled c u wanted l p =
         let z = ruled in
         let i = s .upto in
-        let w : Tells (shown (decode g)) u stop wanted d =
+        let w : Tells (shown (decode g)) u stop wanted ends d =
         c (z .config) (record { valid = z .valid; list = z .list; cycle = z .cycle }) (record { started = z .started; base = z .runs }) (shown (decode g)) u wanted
         (λ v x y. z .all v x (omega arith)) l p in
         go (leb edge (t + r .period)) refl w
       where
-        go : (x : Bool) → leb edge (t + r .period) ≡ x → Tells (shown (decode g)) u stop wanted d → Tells (shown (decode g)) u edge wanted d
-        go true y w = let j = leb-true edge (t + r .period) y in tells-less (shown (decode g)) u wanted stop edge d (omega arith) w
+        go : (x : Bool) → leb edge (t + r .period) ≡ x → Tells (shown (decode g)) u stop wanted ends d → Tells (shown (decode g)) u edge wanted ends d
+        go true y w = let j = leb-true edge (t + r .period) y in tells-less (shown (decode g)) u wanted ends stop edge d (omega arith) w
         go false y w =
             let j = leb-false edge (t + r .period) y in
             let z = ruled in
             let i = s .upto in
             let m = z .cycle in
-            tells-round (shown (decode g)) u wanted (z .config) (z .valid) t edge l (z .started) (λ v x y. z .all v x (omega arith)) stop d (omega arith) (omega arith) w
+            tells-round (shown (decode g)) u wanted ends (z .config) (z .valid) t edge l (z .started) (λ v x y. z .all v x (omega arith)) stop d (omega arith) (omega arith) w
 
 -- a fine record is readable
 

@@ -38,7 +38,7 @@ module _ (f : ℕ → ℕ → ℕ) (o : Bool → Bool → Bool) (shr : (a b k : 
 pub gate-and : (a b k : ℕ) → isOpen (bitAnd a b) k ≡ isOpen a k && isOpen b k
 gate-and = gate-by bitAnd (λ x y. x && y) and-shr and-mod refl refl refl refl
 
-gate-or : (a b k : ℕ) → isOpen (bitOr a b) k ≡ isOpen a k || isOpen b k
+pub gate-or : (a b k : ℕ) → isOpen (bitOr a b) k ≡ isOpen a k || isOpen b k
 gate-or = gate-by bitOr (λ x y. x || y) or-shr or-mod refl refl refl refl
 
 gate-xor : (a b k : ℕ) → isOpen (bitXor a b) k ≡ cond (isOpen a k) (not (isOpen b k)) (isOpen b k)
@@ -126,6 +126,3 @@ forms-more q n octet r b f e s k h = s k h ∙ ap₂ (λ x y. x || (y && eqb k n
 
 pub forms-at : (q : ℕ → Bool) (r : ℕ) → Forms q 8 r → (k : ℕ) → k < 8 → isOpen r k ≡ q k
 forms-at q r f k h = f k h ∙ ap (λ x. x && q k) (lt-ltb k 8 h)
-
-pub forms-as : (p q : ℕ → Bool) (r : ℕ) → ((k : ℕ) → k < 8 → p k ≡ q k) → Forms p 8 r → Forms q 8 r
-forms-as p q r e f k h = f k h ∙ ap (λ b. ltb k 8 && b) (e k h)

@@ -4,18 +4,18 @@
 use mathlib.Core.Path.{_≡_}
 use mathlib.Core.Bool.{Bool, true, not, _&&_, _||_}
 use mathlib.Core.List.{List}
-use mathlib.Core.Option.{Option, none, some}
+use mathlib.Core.Option.{Option}
 use Prim.Native.Nat.{ℕ, _+_, _≤_, _<_}
-use lib.Dec.{eqb, leb, ltb}
+use lib.Dec.{eqb, ltb}
 use lib.ListN.{getD}
-use Rattle.rule.specs.Limits.{longestFrame}
+use Rattle.rule.specs.Limits.{longestFrame, longestSpan}
 use Rattle.rule.specs.Gates.{isOpen}
-use Rattle.rule.specs.Choice.{duration, chosen}
+use Rattle.rule.specs.Choice.{duration, highest, frameFor, chosen}
 use Rattle.rule.specs.Orders.{speedOffered}
 use Rattle.rule.specs.Timetable.{Timetable, shown}
 use Rattle.rule.specs.Port.{Frame}
-use Rattle.frames.specs.declared.choosing.Found.{Found}
-use Rattle.frames.specs.declared.choosing.Found.the-variants.{Class, Nobody}
+use Rattle.frames.specs.declared.Frame as declared
+use Rattle.frames.specs.Frame.{encodeFrame}
 
 -- the octet with one class's bit set, if b
 abbrev pub Sets : ℕ → Bool → ℕ → ℕ → Type 0
@@ -29,24 +29,24 @@ Forms q n r = (k : ℕ) → k < 8 → isOpen r k ≡ ltb k n && q k
 abbrev pub headed : List ℕ → ℕ → Bool
 headed heads k = not (eqb (getD heads k 0) 0)
 
--- the class is one of an octet, and its frame, begun at t, ends by the closing of its gate
-abbrev pub endsBy : List ℕ → ℕ → ℕ → ℕ → List ℕ → ℕ → Bool
-endsBy heads speed t octet closing k = isOpen octet k && leb (t + duration (getD heads k 0) speed) (getD closing k 0)
-
--- the longest head of an octet's classes, among those below n
-pub record Longest (octet : ℕ) (heads : List ℕ) (n r : ℕ) : Type 0 where
-  pub each : (k : ℕ) → k < n → isOpen octet k ≡ true → getD heads k 0 ≤ r
-  pub least : (m : ℕ) → ((k : ℕ) → getD heads k 0 ≤ m) → r ≤ m
+-- what a transmit asks for at t, of the classes below n: the octet of those that have a frame, when each frame ends, and an instant by which those that are
+-- there have ended
+pub record Asks (heads : List ℕ) (speed t n wanted last : ℕ) (ends : List ℕ) : Type 0 where
+  pub formed : Forms (headed heads) n wanted
+  pub each : (k : ℕ) → k < n → getD ends k 0 ≡ t + duration (getD heads k 0) speed
+  pub from : t ≤ last
+  pub upto : (k : ℕ) → k < n → headed heads k ≡ true → getD ends k 0 ≤ last
+  pub near : last ≤ t + longestSpan
 
 -- what an accepted transmit is asked with
 pub record Offered (heads : List ℕ) (speed : ℕ) : Type 0 where
   pub fast : speedOffered speed ≡ true
   pub short : (k : ℕ) → getD heads k 0 ≤ longestFrame
 
--- the class found
-abbrev pub foundOf : Option ℕ → Found
-foundOf none = Nobody
-foundOf (some k) = Class k
+-- the frame of the highest class of an octet, by the ends of the eight frames
+abbrev pub Begins : ℕ → List ℕ → ℕ → declared.Frame → Type 0
+Begins octet ends t r = (heads : List ℕ) (speed : ℕ) → ((k : ℕ) → k < 8 → getD ends k 0 ≡ t + duration (getD heads k 0) speed)
+    → r ≡ encodeFrame (frameFor heads speed t (highest (isOpen octet) 8))
 
 -- the frame that an accepted transmit begins
 abbrev pub begun : List ℕ → ℕ → Timetable → Option Frame

@@ -41,7 +41,7 @@ unfolding perform
 tested-perform a p = tested-again (performed a p .gates .clock) (shownNow (performed a p .gates)) (performed a p .frame)
 
 -- an open gate stays open
-open-still : (g : ℕ → ℕ) (k t n : ℕ) → ((u : ℕ) → t ≤ u → u < t + n → isOpen (g u) k ≡ true) → staysOpen g k t n ≡ true
+pub open-still : (g : ℕ → ℕ) (k t n : ℕ) → ((u : ℕ) → t ≤ u → u < t + n → isOpen (g u) k ≡ true) → staysOpen g k t n ≡ true
 unfolding staysOpen
 open-still g k t zero h = refl
 open-still g k t (suc n) h = rw (h t (omega arith) (omega arith)) (open-still g k (suc t) n (λ u a b. h u (omega arith) (omega arith)))

@@ -1,12 +1,12 @@
--- `frames::ahead::closings_over` meets its contract: the standing octet is shown, or a list over its cycles, of which one is walked.
+-- `frames::ahead::swept_span` meets its contract: the standing octet is shown, or a list over its cycles, of which one is walked.
 -- Assumes nothing.
 use borrow.Author.Needs.{needs}
 use mathlib.Core.Bool.{true, false}
 use native.Mathlib.Omega.{arith}
 use Rattle.timetable.specs.declared.Timetable.{Timetable}
-use Rattle.frames.proofs.Closing.{closes-flat, walkable, closes-ruled}
-use Rattle.frames.proofs.ahead.closings_over.Statement.{statement}
-use Rattle.frames.proofs.ahead.closings_over.Tie as tie
+use Rattle.frames.proofs.Closing.{span-flat, walkable, span-ruled}
+use Rattle.frames.proofs.ahead.swept_span.Statement.{statement}
+use Rattle.frames.proofs.ahead.swept_span.Tie as tie
 
 narrowed-requires : tie.Need-narrowed-requires
 narrowed-requires c κs = search needs
@@ -16,7 +16,7 @@ returns c =
     let s = c .before .before in
     let a = s .args in
     let g : Timetable = record { times = a .x; octets = a .os .now; intervals = a .vs .now; newoctets = a .ws .now; newintervals = a .zs .now } in
-    closes-flat g (a .t) (a .edge) (a .span) (s .pre .1) (a .before) _ (c .before .if1 .taken) (c .narrowed .ensures)
+    span-flat g (a .t) (a .edge) (a .span) (s .pre .1) (a .ends .now) (a .before) _ (c .before .if1 .taken) (c .narrowed .ensures)
 
 add-least : tie.Need-add-least
 add-least c =
@@ -27,13 +27,13 @@ add-least c =
 least-requires : tie.Need-least-requires
 least-requires c κs = search needs
 
-closings-in-requires : tie.Need-closings-in-requires
-closings-in-requires c κs =
+swept-list-requires : tie.Need-swept-list-requires
+swept-list-requires c κs =
     let i = c .before .before in
     let s = i .before in
     let a = s .args in
     let g : Timetable = record { times = a .x; octets = a .os .now; intervals = a .vs .now; newoctets = a .ws .now; newintervals = a .zs .now } in
-    walkable g (a .t) (a .edge) (a .span) (s .pre .1) (a .before) (a .before) (s .pre .0) (i .if1 .left) true (c .if2 .taken) _ (c .before .least .ensures)
+    walkable g (a .t) (a .edge) (a .span) (s .pre .1) (a .ends .now) (a .before) (a .before) (s .pre .0) (i .if1 .left) true (c .if2 .taken) _ (c .before .least .ensures)
 
 returns-2 : tie.Need-returns-2
 returns-2 c =
@@ -41,15 +41,15 @@ returns-2 c =
     let s = i .before in
     let a = s .args in
     let g : Timetable = record { times = a .x; octets = a .os .now; intervals = a .vs .now; newoctets = a .ws .now; newintervals = a .zs .now } in
-    closes-ruled g (a .t) (a .edge) (a .span) (s .pre .1) (a .before) _ (s .pre .0) (i .if1 .left) true (c .before .if2 .taken) _ (c .before .before .least .ensures) (c .closings-in .ensures)
+    span-ruled g (a .t) (a .edge) (a .span) (s .pre .1) (a .ends .now) (a .before) _ (s .pre .0) (i .if1 .left) true (c .before .if2 .taken) _ (c .before .before .least .ensures) (c .swept-list .ensures)
 
-closings-in-requires-2 : tie.Need-closings-in-requires-2
-closings-in-requires-2 c κs =
+swept-list-requires-2 : tie.Need-swept-list-requires-2
+swept-list-requires-2 c κs =
     let i = c .before .before in
     let s = i .before in
     let a = s .args in
     let g : Timetable = record { times = a .x; octets = a .os .now; intervals = a .vs .now; newoctets = a .ws .now; newintervals = a .zs .now } in
-    walkable g (a .t) (a .edge) (a .span) (s .pre .1) (a .before) (a .before) (s .pre .0) (i .if1 .left) false (c .if2 .left) _ (c .before .least .ensures)
+    walkable g (a .t) (a .edge) (a .span) (s .pre .1) (a .ends .now) (a .before) (a .before) (s .pre .0) (i .if1 .left) false (c .if2 .left) _ (c .before .least .ensures)
 
 returns-3 : tie.Need-returns-3
 returns-3 c =
@@ -57,17 +57,17 @@ returns-3 c =
     let s = i .before in
     let a = s .args in
     let g : Timetable = record { times = a .x; octets = a .os .now; intervals = a .vs .now; newoctets = a .ws .now; newintervals = a .zs .now } in
-    closes-ruled g (a .t) (a .edge) (a .span) (s .pre .1) (a .before) _ (s .pre .0) (i .if1 .left) false (c .before .if2 .left) _ (c .before .before .least .ensures) (c .closings-in2 .ensures)
+    span-ruled g (a .t) (a .edge) (a .span) (s .pre .1) (a .ends .now) (a .before) _ (s .pre .0) (i .if1 .left) false (c .before .if2 .left) _ (c .before .before .least .ensures) (c .swept-list2 .ensures)
 
-pub closings-over-spec : {M : Type 1} → statement M
-closings-over-spec =
+pub swept-span-spec : {M : Type 1} → statement M
+swept-span-spec =
     tie.close
     (tie.spec
     narrowed-requires
     returns
     add-least
     least-requires
-    closings-in-requires
+    swept-list-requires
     returns-2
-    closings-in-requires-2
+    swept-list-requires-2
     returns-3)

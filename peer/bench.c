@@ -43,6 +43,13 @@ static void octets_counting(void) /* 80, 81, .. FF: class 7 is always open */
         list.octets[i] = (uint8_t)(0x80 | i);
 }
 
+/* Classes 7 and 6 are always open; class 7 closes for good at entry `closed`. */
+static void octets_pair(unsigned closed)
+{
+    for (unsigned i = 0; i < PORT_PLACES; i++)
+        list.octets[i] = (uint8_t)((i < closed ? 0xC0 : 0x40) | (i & 0x3F));
+}
+
 /* FF for 120 entries, then class 0, class 1, .. close one by one; those in
  * `kept` stay open. */
 static void octets_closing(uint8_t kept)
@@ -146,7 +153,7 @@ static uint64_t run_check(uint64_t times)
 
 static const char *const cases[] = {
     "read128", "write128", "submit", "look", "check14", "step128", "step2", "quiet", "quiet1",
-    "transmit-first", "transmit-none", "transmit-10",
+    "transmit-first", "transmit-none", "transmit-10", "transmit-change",
 };
 
 static uint64_t run(const char *name, uint64_t times)
@@ -193,9 +200,16 @@ static uint64_t run(const char *name, uint64_t times)
         set_up(128, 125, 16, 1000000);
         return run_transmits(times, 2000, 1000);
     }
-    octets_closing(0x80); /* transmit-10 */
-    set_up(128, 125, 16, 1000000);
-    return run_transmits(times, 2000, 10);
+    if (strcmp(name, "transmit-10") == 0) {
+        octets_closing(0x80);
+        set_up(128, 125, 16, 1000000);
+        return run_transmits(times, 2000, 10);
+    }
+    octets_pair(128); /* transmit-change */
+    set_up(128, 125, 8, 1000000);
+    octets_pair(8);
+    need(port_submit(&port, &list, 8, 1000000, 0, 15000));
+    return run_transmits(times, 1500, 1000);
 }
 
 int main(int argc, char **argv)

@@ -607,57 +607,158 @@ unsigned port_step(struct port *p, uint64_t goal, uint64_t *instants, size_t ins
 
 /* ---- Choosing a frame ---------------------------------------------------- */
 
-/* Of the classes in `asked` (at least one), the highest whose gate stays open
- * in plain cycles at each instant later than now and before now + d[class];
- * -1 if there is none. One walk serves all classes: each is settled by its
- * first closing or by its own end, and after a whole cycle nothing new can
- * come. Times here count from now. */
-static int look_ahead(const struct port_configuration *c, uint64_t now, unsigned asked,
-                      const uint32_t d[8])
+/* What a look ahead has found so far. Times here count from now. */
+struct ahead {
+    const uint32_t *d; /* by class: the frame's duration */
+    unsigned open;     /* classes that were asked for and have not closed so far */
+    unsigned ended;    /* closed, but not before their frame's end */
+    int top;           /* the highest of both: those above have failed; -1 if there is none */
+    uint64_t settled;  /* the time from which no closing can fail it */
+};
+
+/* The highest class that may still qualify: true if there is none. */
+static bool find_top(struct ahead *a)
+{
+    const unsigned left = a->open | a->ended;
+    int top = 7;
+    while (top >= 0 && !((left >> top) & 1u))
+        top--;
+    a->top = top;
+    a->settled = top < 0 ? 0 : a->d[top];
+    return top < 0;
+}
+
+/* From time x on `octet` is shown: true if no class is left. */
+static bool meet(struct ahead *a, uint8_t octet, uint64_t x)
+{
+    unsigned closing = a->open & ~(unsigned)octet;
+    if (!closing)
+        return false;
+    a->open &= ~closing;
+    for (unsigned class = 0; closing; class++, closing >>= 1)
+        if ((closing & 1u) && a->d[class] <= x)
+            a->ended |= 1u << class;
+    return find_top(a);
+}
+
+/* The walks below return true if the choice is settled before time `to`. */
+
+/* One cycle's entries from the cursor on, which stands at `offset`, time x. */
+static bool ahead_part(struct ahead *a, const struct port_list *l, struct cursor at, uint64_t offset,
+                       uint64_t x, uint64_t to)
+{
+    const uint32_t last = (uint32_t)l->length - 1;
+    uint64_t next = x + (at.end - offset); /* the next entry's time; unused for the last entry */
+    for (uint32_t entry = at.entry;; next += l->intervals[entry]) {
+        if (x >= a->settled || meet(a, l->octets[entry], x))
+            return true;
+        if (entry == last || next >= to)
+            return false;
+        x = next;
+        entry++;
+    }
+}
+
+/* Plain cycles from `offset` on, time x. One whole round is enough: what it
+ * leaves open stays open in every further one. */
+static bool ahead_plain(struct ahead *a, const struct port_configuration *c, uint64_t offset,
+                        uint64_t x, uint64_t to)
 {
     const struct port_list *l = &c->list;
-    const uint32_t last = (uint32_t)l->length - 1;
-    const uint64_t offset = (now + 1 - c->start) % c->cycle;
-    const struct cursor at = lookup(l, offset);
-    uint32_t entry = at.entry;
-    uint64_t x = 1;                        /* the first time met in the entry */
-    uint64_t next = 1 + (at.end - offset); /* the next entry's; unused for the last entry */
-    uint64_t wrap = 1 + (c->cycle - offset);
-    unsigned open = asked;                 /* not closed so far */
-    unsigned ended = 0;                    /* closed, but not before their frame's end */
-    int top = 7;                           /* the highest of both: those above have failed */
-    while (!((asked >> top) & 1u))
-        top--;
-    uint64_t settled = earlier(d[top], c->cycle + 1);
-
-    for (;;) {
-        if (x >= settled)
-            return top;
-        unsigned closing = open & ~(unsigned)l->octets[entry];
-        if (closing) {
-            open &= ~closing;
-            for (unsigned class = 0; closing; class++, closing >>= 1)
-                if ((closing & 1u) && d[class] <= x)
-                    ended |= 1u << class;
-            if (!(open | ended))
-                return -1;
-            while (!(((open | ended) >> top) & 1u))
-                top--;
-            settled = earlier(d[top], c->cycle + 1);
-        }
-        if (entry == last || next >= wrap) {
+    const uint64_t wrap = x + (c->cycle - offset);
+    const uint64_t stop = earlier(to, x + c->cycle);
+    if (ahead_part(a, l, lookup(l, offset), offset, x, earlier(wrap, stop)))
+        return true;
 #ifdef WRONG_NO_WRAP
-            return top;
+    return false;
 #endif
-            x = wrap;
-            wrap += c->cycle;
-            entry = 0;
+    return wrap < stop && ahead_part(a, l, entry_one(l), 0, wrap, stop);
+}
+
+/* The look ahead sees what is shown if no further act comes: the operating
+ * configuration's plain cycles up to s or P, its last cycle from s to P, the
+ * waiting one's plain cycles from P, which may lie past the largest instant;
+ * or the standing octet in the place of what does not operate. */
+static void look_ahead(struct ahead *a, const struct port *p)
+{
+    const uint64_t now = p->clock;
+    const struct port_configuration *o = &p->operating;
+    const struct port_configuration *w = &p->waiting.configuration;
+#ifdef WRONG_PLAIN_AHEAD
+    const bool waits = false;
+#elif defined WRONG_CHANGE_PAST
+    const bool waits = p->waiting_present && w->start <= PORT_LAST_INSTANT;
+#else
+    const bool waits = p->waiting_present;
+#endif
+    const uint64_t change = waits ? w->start - now : UINT64_MAX;
+
+    if (!p->operating_present) {
+        if (meet(a, p->standing, 0))
+            return;
+#ifdef WRONG_STANDING_AHEAD
+        return;
+#endif
+    } else {
+        uint64_t bend = waits ? last_start(p) : UINT64_MAX;
+        if (waits && bend >= w->start)
+            bend = UINT64_MAX;
+#ifdef WRONG_NO_BEND
+        bend = UINT64_MAX;
+#endif
+        if (bend <= now) {
+            const uint64_t offset = now - bend;
+            if (ahead_part(a, &o->list, lookup(&o->list, offset), offset, 0, change))
+                return;
         } else {
-            x = next;
-            entry++;
+            const uint64_t last = bend == UINT64_MAX ? change : bend - now;
+            if (ahead_plain(a, o, (now - o->start) % o->cycle, 0, last))
+                return;
+#ifdef WRONG_ONE_ROUND
+            if (last > o->cycle)
+                return;
+#endif
+            if (last < change && ahead_part(a, &o->list, entry_one(&o->list), 0, last, change))
+                return;
         }
-        next = x + l->intervals[entry];
     }
+#ifndef WRONG_STOP_AT_CHANGE
+    if (waits && change < a->settled)
+        ahead_plain(a, w, 0, change, UINT64_MAX);
+#endif
+}
+
+/* The highest class of `asked` whose gate is open at each instant from now to
+ * before now + d[class]; -1 if there is none. */
+static int choose(const struct port *p, unsigned asked, const uint32_t d[8])
+{
+    struct ahead a = {d, asked, 0, -1, 0};
+#if defined WRONG_STOP_AT_LAST || defined WRONG_CLOSING_AT_END
+    uint32_t other[8];
+    for (unsigned k = 0; k < 8; k++)
+#ifdef WRONG_STOP_AT_LAST
+        other[k] = (uint32_t)earlier(d[k], PORT_LAST_INSTANT - p->clock + 1);
+#else
+        other[k] = d[k] + 1;
+#endif
+    a.d = other;
+#endif
+#ifdef WRONG_NONE_CHOSEN
+    a.open = 0;
+#endif
+    if (!find_top(&a))
+        look_ahead(&a, p);
+#ifdef WRONG_BOTH
+    if (a.top >= 0) {
+        struct port alone = *p;
+        alone.waiting_present = 0;
+        struct ahead plain = {d, 1u << a.top, 0, a.top, d[a.top]};
+        look_ahead(&plain, &alone);
+        if (plain.top < 0)
+            return choose(p, asked & ~(1u << a.top), d);
+    }
+#endif
+    return a.top;
 }
 
 unsigned port_transmit(struct port *p, const uint64_t heads[8], uint64_t speed)
@@ -678,15 +779,7 @@ unsigned port_transmit(struct port *p, const uint64_t heads[8], uint64_t speed)
         asked |= (unsigned)(heads[k] != 0) << k;
     }
 
-    /* "Open now" is the octet shown; only the look ahead is plain. */
-    asked &= octet_at(p, p->clock);
-    int class = -1;
-    if (asked && p->operating_present) {
-        class = look_ahead(&p->operating, p->clock, asked, d);
-    } else if (asked) {
-        for (class = 7; !((asked >> class) & 1u);)
-            class--;
-    }
+    const int class = choose(p, asked, d);
     if (class >= 0) {
         p->frame.present = 1;
         p->frame.class = (uint8_t)class;

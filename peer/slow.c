@@ -400,14 +400,13 @@ unsigned port_step(struct port *p, uint64_t goal, uint64_t *instants, size_t ins
 
 /* ---- Choosing a frame ------------------------------------------------------ */
 
-/* "Open at each later instant before now + d", by plain cycles or standing. */
-static bool stays_open(const struct port *p, unsigned class, uint64_t d)
+/* "Its gate is open at each instant before its end by the rule for the octet
+ * shown, carried on past the largest instant": each nanosecond is asked. */
+static bool stays_open(const struct port *p, uint64_t bend, unsigned class, uint64_t d)
 {
-    for (uint64_t t = p->clock + 1; t < p->clock + d; t++) {
-        const uint8_t octet = p->operating_present ? plain_octet(&p->operating, t) : p->standing;
-        if (!(octet & (1 << class)))
+    for (uint64_t t = p->clock; t < p->clock + d; t++)
+        if (!(shown(p, bend, t) & (1 << class)))
             return false;
-    }
     return true;
 }
 
@@ -423,15 +422,13 @@ unsigned port_transmit(struct port *p, const uint64_t heads[8], uint64_t speed)
         if (!(heads[k] == 0 || (heads[k] >= 64 && heads[k] <= 2000)))
             return 12;
 
-    const uint8_t now = shown_now(p);
+    const uint64_t bend = bend_of(p);
     for (unsigned i = 0; i < 8; i++) {
         const unsigned class = 7 - i;
         if (heads[class] == 0)
             continue;
-        if (!(now & (1 << class)))
-            continue;
         const uint64_t d = (heads[class] + 8) * 8000 / speed;
-        if (!stays_open(p, class, d))
+        if (!stays_open(p, bend, class, d))
             continue;
         p->frame.present = 1;
         p->frame.class = (uint8_t)class;

@@ -82,6 +82,22 @@ int main(void) {
     call("nothing: it would end 1 ns later", &p, zero, 1000, 0, 0, 0, 0);
     call("nothing: every queue is empty", &p, none, 1000, 0, 0, 0, 0);
 
+    /* another list waits, and closes the gate in the frame, or as it ends */
+    for (uint64_t change = 5999; change <= 6000; change++) {
+        p = with_list(5424);
+        p.gates.times.waits = 1;
+        p.gates.times.newlen = 1;
+        p.gates.times.newcycle = 1000;
+        p.gates.times.since = 5424;
+        p.gates.times.change = change;
+        p.gates.newoctets[0] = 0x80;
+        p.gates.newintervals[0] = 1;
+        if (change == 6000)
+            call("a change as the frame ends", &p, zero, 1000, 0, 1, 0, 6000);
+        else
+            call("nothing: a change in the frame", &p, zero, 1000, 0, 0, 0, 0);
+    }
+
     /* the gates of a port that is off are those of its standing octet; the highest class of all */
     memset(&p, 0, sizeof p);
     p.gates.times.clock = KURFANDAZ_LARGEST_INSTANT;

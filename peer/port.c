@@ -9,31 +9,48 @@
 
 /* ---- 14: the record ---------------------------------------------------- */
 
+/* Four intervals, or sixteen octets, in one operation of the machine. */
+typedef uint32_t four __attribute__((vector_size(16), may_alias));
+typedef uint8_t sixteen __attribute__((vector_size(16), may_alias));
+
 /* An absent list has length 0, so one rule serves both kinds: an interval in
- * every used place, nothing in any unused one. The loops only gather bits and
- * have no exit, so that they become vector code. */
-static bool places_good(const struct port_list *l)
+ * every used place, nothing in any unused one. The loops over sixteen places
+ * at a time only gather bits; at most fifteen used places are looked at one by
+ * one, and the unused ones up to the next sixteen. */
+static inline bool places_good(const struct port_list *l)
 {
     if (l->length > PORT_PLACES)
         return false;
-    const uint32_t n = (uint32_t)l->length;
+    const size_t n = (size_t)l->length;
 #ifdef WRONG_UNUSED
-    const uint32_t places = PORT_PLACES - 1;
+    const size_t places = PORT_PLACES - 16;
 #else
-    const uint32_t places = PORT_PLACES;
+    const size_t places = PORT_PLACES;
 #endif
-    uint32_t bad = 0;
-    for (uint32_t i = 0; i < n; i++)
-        bad |= l->intervals[i] == 0;
-    for (uint32_t i = n; i < places; i++)
-        bad |= l->intervals[i];
-    uint8_t left = 0;
-    for (uint32_t i = n; i < places; i++)
-        left |= l->octets[i];
-    return (bad | left) == 0;
+    four bad = {0};
+    size_t i = 0;
+    for (; i + 16 <= n; i += 16) {
+        const four *in = (const four *)(l->intervals + i);
+        bad |= (four)(in[0] == 0) | (four)(in[1] == 0) | (four)(in[2] == 0) | (four)(in[3] == 0);
+    }
+    uint64_t left = 0;
+    for (; i < n; i++)
+        left |= l->intervals[i] == 0;
+    for (; i % 16 != 0; i++)
+        left |= l->intervals[i] | l->octets[i];
+    sixteen octets = {0};
+    for (; i < places; i += 16) {
+        const four *in = (const four *)(l->intervals + i);
+        bad |= in[0] | in[1] | in[2] | in[3];
+        octets |= *(const sixteen *)(l->octets + i);
+    }
+    bad |= (four)octets;
+    uint64_t halves[2];
+    memcpy(halves, &bad, sizeof halves);
+    return (left | halves[0] | halves[1]) == 0;
 }
 
-static bool configuration_good(const struct port_configuration *c, bool present)
+static inline bool configuration_good(const struct port_configuration *c, bool present)
 {
     if (!places_good(&c->list))
         return false;
@@ -609,53 +626,96 @@ unsigned port_step(struct port *p, uint64_t goal, uint64_t *instants, size_t ins
 
 /* What a look ahead has found so far. Times here count from now. */
 struct ahead {
-    const uint32_t *d; /* by class: the frame's duration */
-    unsigned open;     /* classes that were asked for and have not closed so far */
-    unsigned ended;    /* closed, but not before their frame's end */
-    int top;           /* the highest of both: those above have failed; -1 if there is none */
-    uint64_t settled;  /* the time from which no closing can fail it */
+    const uint64_t *heads;
+    uint64_t octet_time; /* 8,000 / speed */
+    unsigned open;       /* classes that were asked for and have not closed so far */
+    unsigned ended;      /* closed, but not before their frame's end */
+    uint64_t settled;    /* the end of the highest of both: no later closing can fail it; 0 if there is none */
+#ifdef WRONG_STOP_AT_LAST
+    uint64_t longest;
+#endif
 };
 
-/* The highest class that may still qualify: true if there is none. */
-static bool find_top(struct ahead *a)
+static inline uint64_t duration(const struct ahead *a, unsigned class)
+{
+    const uint64_t d = (a->heads[class] + 8) * a->octet_time;
+#ifdef WRONG_STOP_AT_LAST
+    return earlier(d, a->longest);
+#elif defined WRONG_CLOSING_AT_END
+    return d + 1;
+#else
+    return d;
+#endif
+}
+
+/* "Find the highest class from its leading zeros", of an octet that is not 0:
+ * the number that is counted in has 32 bits. */
+static inline unsigned highest(unsigned octet)
+{
+#ifdef WRONG_LOWEST
+    return (unsigned)__builtin_ctz(octet);
+#else
+    return 31u - (unsigned)__builtin_clz(octet);
+#endif
+}
+
+static inline void settle(struct ahead *a)
 {
     const unsigned left = a->open | a->ended;
-    int top = 7;
-    while (top >= 0 && !((left >> top) & 1u))
-        top--;
-    a->top = top;
-    a->settled = top < 0 ? 0 : a->d[top];
-    return top < 0;
+    a->settled = left ? duration(a, highest(left)) : 0;
 }
 
-/* From time x on `octet` is shown: true if no class is left. */
-static bool meet(struct ahead *a, uint8_t octet, uint64_t x)
+/* The gates of `closing` close at time x: before the shortest frame of all has
+ * ended, no class has. */
+static inline void close_gates(struct ahead *a, unsigned closing, uint64_t x)
 {
-    unsigned closing = a->open & ~(unsigned)octet;
-    if (!closing)
-        return false;
     a->open &= ~closing;
-    for (unsigned class = 0; closing; class++, closing >>= 1)
-        if ((closing & 1u) && a->d[class] <= x)
-            a->ended |= 1u << class;
-    return find_top(a);
+    if (x >= (64 + 8) * a->octet_time) {
+        for (; closing; closing &= closing - 1) {
+            const unsigned class = (unsigned)__builtin_ctz(closing);
+            if (duration(a, class) <= x)
+                a->ended |= 1u << class;
+        }
+    }
+    settle(a);
 }
 
-/* The walks below return true if the choice is settled before time `to`. */
+/* The walks below go on at time x, before which nothing is settled, and return
+ * true if the choice is settled by time `to`. */
 
-/* One cycle's entries from the cursor on, which stands at `offset`, time x. */
+/* One cycle's entries from the cursor on, which stands at `offset`. */
 static bool ahead_part(struct ahead *a, const struct port_list *l, struct cursor at, uint64_t offset,
                        uint64_t x, uint64_t to)
 {
-    const uint32_t last = (uint32_t)l->length - 1;
+    const size_t last = (size_t)l->length - 1;
+    size_t entry = at.entry;
     uint64_t next = x + (at.end - offset); /* the next entry's time; unused for the last entry */
-    for (uint32_t entry = at.entry;; next += l->intervals[entry]) {
-        if (x >= a->settled || meet(a, l->octets[entry], x))
+    for (;;) {
+        const uint64_t stop = earlier(to, a->settled);
+        const unsigned open = a->open;
+        /* Eight entries at a time while all keep open what is open. */
+        const uint64_t all = open * UINT64_C(0x0101010101010101);
+        while (entry + 8 <= last) {
+            uint64_t eight;
+            memcpy(&eight, l->octets + entry, sizeof eight);
+            if ((eight & all) != all)
+                break;
+            const uint32_t *i = l->intervals + entry + 1;
+            x = next + (((uint64_t)i[0] + i[1]) + ((uint64_t)i[2] + i[3]) + (((uint64_t)i[4] + i[5]) + i[6]));
+            if (x >= stop)
+                return a->settled <= to;
+            next = x + i[7];
+            entry += 8;
+        }
+        while ((open & l->octets[entry]) == open) {
+            if (entry == last || next >= stop)
+                return a->settled <= to;
+            x = next;
+            next += l->intervals[++entry];
+        }
+        close_gates(a, open & ~(unsigned)l->octets[entry], x);
+        if (a->settled <= x)
             return true;
-        if (entry == last || next >= to)
-            return false;
-        x = next;
-        entry++;
     }
 }
 
@@ -694,7 +754,8 @@ static void look_ahead(struct ahead *a, const struct port *p)
     const uint64_t change = waits ? w->start - now : UINT64_MAX;
 
     if (!p->operating_present) {
-        if (meet(a, p->standing, 0))
+        close_gates(a, a->open & ~(unsigned)p->standing, 0);
+        if (a->settled <= change)
             return;
 #ifdef WRONG_STANDING_AHEAD
         return;
@@ -723,70 +784,80 @@ static void look_ahead(struct ahead *a, const struct port *p)
         }
     }
 #ifndef WRONG_STOP_AT_CHANGE
-    if (waits && change < a->settled)
+    if (waits)
         ahead_plain(a, w, 0, change, UINT64_MAX);
 #endif
 }
 
-/* The highest class of `asked` whose gate is open at each instant from now to
- * before now + d[class]; -1 if there is none. */
-static int choose(const struct port *p, unsigned asked, const uint32_t d[8])
+/* The octet of the classes of `asked` that may be chosen: its highest is the
+ * highest class whose gate is open at each instant from now to before its
+ * frame's end. Lower ones are left in it as far as the walk has come. */
+static unsigned qualifying(const struct port *p, const uint64_t heads[8], uint64_t octet_time,
+                           unsigned asked)
 {
-    struct ahead a = {d, asked, 0, -1, 0};
-#if defined WRONG_STOP_AT_LAST || defined WRONG_CLOSING_AT_END
-    uint32_t other[8];
-    for (unsigned k = 0; k < 8; k++)
+    struct ahead a = {.heads = heads, .octet_time = octet_time, .open = asked};
 #ifdef WRONG_STOP_AT_LAST
-        other[k] = (uint32_t)earlier(d[k], PORT_LAST_INSTANT - p->clock + 1);
-#else
-        other[k] = d[k] + 1;
-#endif
-    a.d = other;
+    a.longest = PORT_LAST_INSTANT - p->clock + 1;
 #endif
 #ifdef WRONG_NONE_CHOSEN
-    a.open = 0;
+    return 0;
 #endif
-    if (!find_top(&a))
+    settle(&a);
+    if (asked)
         look_ahead(&a, p);
+    unsigned octet = a.open | a.ended;
 #ifdef WRONG_BOTH
-    if (a.top >= 0) {
+    if (octet && p->waiting_present) {
         struct port alone = *p;
         alone.waiting_present = 0;
-        struct ahead plain = {d, 1u << a.top, 0, a.top, d[a.top]};
-        look_ahead(&plain, &alone);
-        if (plain.top < 0)
-            return choose(p, asked & ~(1u << a.top), d);
+        if (!qualifying(&alone, heads, octet_time, 1u << highest(octet)))
+            octet = qualifying(p, heads, octet_time, asked & ~(1u << highest(octet)));
     }
 #endif
-    return a.top;
+    return octet;
 }
 
 unsigned port_transmit(struct port *p, const uint64_t heads[8], uint64_t speed)
 {
     if (port_check(p))
         return PORT_RECORD;
-    if (speed != 10 && speed != 100 && speed != 1000)
+    uint64_t octet_time;
+    if (speed == 1000)
+        octet_time = 8;
+    else if (speed == 100)
+        octet_time = 80;
+    else if (speed == 10)
+        octet_time = 800;
+    else
         return PORT_SPEED;
     if (p->frame.present)
         return PORT_SENDING;
-    const uint32_t octet_time = speed == 10 ? 800 : speed == 100 ? 80 : 8;
-    uint32_t d[8];
-    unsigned asked = 0;
-    for (unsigned k = 0; k < 8; k++) {
-        if (heads[k] != 0 && (heads[k] < 64 || heads[k] > 2000))
-            return PORT_HEAD;
-        d[k] = ((uint32_t)heads[k] + 8) * octet_time;
-        asked |= (unsigned)(heads[k] != 0) << k;
+    /* Each head has its bit in one of two octets, or its length is wrong. */
+    unsigned asked = 0, empty = 0;
+    for (unsigned k = 8; k-- > 0;) {
+        asked = asked + asked + (heads[k] - 64 < 2001 - 64);
+        empty = empty + empty + (heads[k] < 1);
     }
+    if ((asked | empty) != 0xFF)
+        return PORT_HEAD;
 
-    const int class = choose(p, asked, d);
-    if (class >= 0) {
+    const unsigned octet = qualifying(p, heads, octet_time, asked);
+    if (octet) {
+        const unsigned class = highest(octet);
         p->frame.present = 1;
         p->frame.class = (uint8_t)class;
         p->frame.counted = 0;
         p->frame.start = p->clock;
-        p->frame.end = p->clock + d[class];
+        p->frame.end = p->clock + (heads[class] + 8) * octet_time;
     }
+#ifdef WRONG_CLASS_7
+    else {
+        p->frame.present = 1;
+        p->frame.class = 7;
+        p->frame.start = p->clock;
+        p->frame.end = p->clock + (heads[7] + 8) * octet_time;
+    }
+#endif
     /* No overrun can follow: a frame chosen here has its gate open now. */
     return PORT_OK;
 }

@@ -36,10 +36,11 @@ enum port_refusal {
     PORT_SENDING = 17
 };
 
-/* "A list record always has 128 places": unused ones are zero. */
+/* "A list record always has 128 places": unused ones are zero. The arrays are
+ * aligned so that several places can be looked at in one operation. */
 struct port_list {
-    uint8_t octets[PORT_PLACES];
-    uint32_t intervals[PORT_PLACES];
+    _Alignas(16) uint8_t octets[PORT_PLACES];
+    _Alignas(16) uint32_t intervals[PORT_PLACES];
     uint64_t length;
 };
 

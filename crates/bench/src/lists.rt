@@ -25,6 +25,20 @@ pub fn closing(kept: u8) -> [u8; 128] {
     octets
 }
 
+// An octet with class 6 open, and class 7 if both are to be.
+fn paired(octet: u8, both: bool) -> u8 {
+    if both { octet & 0x3f | 0xc0 } else { octet & 0x3f | 0x40 }
+}
+
+// The octets C0, C1 and so on to FF, twice: classes 7 and 6 are always open. From an entry on class 7 is closed.
+pub fn pair(until: usize) -> [u8; 128] {
+    let mut octets = counting();
+    for i in 0..128 {
+        octets[i] = paired(octets[i], i < until);
+    }
+    octets
+}
+
 // The octets 80 and 01, over and over.
 pub fn alternating() -> [u8; 128] {
     let mut octets = [0x80u8; 128];

@@ -8,6 +8,7 @@ use lists::alternating;
 use lists::closing;
 use lists::counting;
 use lists::list_of;
+use lists::pair;
 use work::set_up;
 
 // Whether a case of this name is asked for.
@@ -103,6 +104,15 @@ fn transmits(name: &[u8], times: u64) {
     if asked(name, b"transmit-10") {
         let p = set_up(list_of(closing(0x80), 125, 128), 16, 1_000_000);
         say(b"transmit-10", times, work::transmits(p, 2000, 10, times));
+    }
+    if asked(name, b"transmit-change") {
+        let p = set_up(list_of(pair(128), 125, 128), 8, 1_000_000);
+        let next = p.submit(list_of(pair(8), 125, 128), 8, 1_000_000, 0, 15_000);
+        say(
+            b"transmit-change",
+            times,
+            work::transmits(next.port, 1500, 1000, times),
+        );
     }
 }
 

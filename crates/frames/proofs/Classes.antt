@@ -19,8 +19,7 @@ use Rattle.rule.specs.Gates.{isOpen}
 use Rattle.rule.specs.Choice.{duration, staysOpen, qualifies, highest, frameFor, chosen}
 use Rattle.rule.specs.Orders.{speedOffered}
 use Rattle.rule.proofs.Sound.{duration-short}
-use Rattle.rule.proofs.Stretch.{open-still}
-use Rattle.rule.proofs.Choice.{by-speed, speed-range, highest-same}
+use Rattle.rule.proofs.Choice.{open-still, open-each, highest-same, by-speed, speed-range}
 use Rattle.frames.specs.declared.ahead.Gates.{Gates}
 use Rattle.frames.specs.declared.Frame as declared
 use Rattle.frames.specs.Ahead.{Known, Tells}
@@ -153,15 +152,11 @@ begins-top octet ends t k h e heads speed f =
 
 module _ (g : ℕ → ℕ) (k : ℕ) where
   stays-not : (t n v : ℕ) → t ≤ v → v < t + n → isOpen (g v) k ≡ false → staysOpen g k t n ≡ false
-  unfolding staysOpen
-  stays-not t zero v a b e = absurd (omega arith)
-  stays-not t (suc n) v a b e = go (eqb v t) refl (isOpen (g t) k) refl (λ h. stays-not (suc t) n v h (omega arith) e)
+  stays-not t n v a b e = go (staysOpen g k t n) refl
     where
-      go : (s : Bool) → eqb v t ≡ s → (o : Bool) → isOpen (g t) k ≡ o → (suc t ≤ v → staysOpen g k (suc t) n ≡ false)
-          → o && staysOpen g k (suc t) n ≡ false
-      go s z false o f = refl
-      go true z true o f = let w : t ≡ v = sym (eqb-true v t z) in absurd (true≢false (sym o ∙ ap (λ u. isOpen (g u) k) w ∙ e))
-      go false z true o f = let w = eqb-false v t z in f (omega arith)
+      go : (s : Bool) → staysOpen g k t n ≡ s → s ≡ false
+      go true z = absurd (true≢false (sym (open-each g k t n z v a b) ∙ e))
+      go false z = refl
 
   -- open from t to before at, and closed then: open to before e, if that is no later
   pub stays-met : (t e at : ℕ) → t ≤ at → ((v : ℕ) → t ≤ v → v < at → isOpen (g v) k ≡ true) → isOpen (g at) k ≡ false → staysOpen g k t (e - t) ≡ leb e at

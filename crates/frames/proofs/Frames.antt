@@ -1,8 +1,8 @@
 -- The frame's record: a well-formed one is the encoding of its frame, which is sound (`frame-fine`); the encoding of a sound frame is well formed
 -- (`frame-formed`) and decodes to it (`frame-decoded`).
 -- Assumes nothing.
-use mathlib.Core.Path.{_≡_, refl, sym, _∙_}
-use mathlib.Core.Bool.{Bool, true, false, _&&_, _||_}
+use mathlib.Core.Path.{_≡_, refl, sym}
+use mathlib.Core.Bool.{Bool, true, false, _&&_}
 use mathlib.Core.Option.{Option, none, some}
 use Prim.Native.Nat.{ℕ, _-_}
 use native.Mathlib.Omega.{arith}

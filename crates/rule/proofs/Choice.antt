@@ -1,5 +1,5 @@
 -- Document 01, 'Choosing a frame': no frame is chosen exactly if no class qualifies, and the chosen class is the highest that does. In order: the highest
--- class that passes a test; the same of the choice; what it depends on; the speeds and durations.
+-- class that passes a test; the same of the choice; which classes qualify; what the choice depends on; the speeds and durations.
 -- Assumes nothing.
 use mathlib.Core.Path.{_≡_, refl, ap, ap₂, sym, _∙_, subst⁻¹}
 use mathlib.Core.Logic.{_↔_}
@@ -11,7 +11,7 @@ use native.Mathlib.Nat.{le-div-iff-mul-le}
 use native.Mathlib.Omega.{arith}
 use lib.Dec.{eqb}
 use lib.ListN.{getD}
-use borrow.Author.Tests.{eqb-true, eqb-false}
+use borrow.Author.Tests.{eqb-true, eqb-false, ne-eqb}
 use Rattle.rule.specs.Gates.{isOpen}
 use Rattle.rule.specs.Port.{Frame}
 use Rattle.rule.specs.Choice.{duration, staysOpen, qualifies, highest, frameFor, chosen}
@@ -68,24 +68,35 @@ module _ (heads : List ℕ) (speed t : ℕ) (g : ℕ → ℕ) where
       go (some f) h =
           (λ e. absurd (true≢false e), λ k. absurd (true≢false (sym (h .0 .1 .0) ∙ k (f .class) (h .0 .0))))
 
--- a gate stays open exactly if it is open at each instant
+-- a gate that stays open is open at each instant, and a class qualifies exactly if it has a frame and its gate is open at each instant before the frame's end
 
-module _ (g : ℕ → ℕ) (k : ℕ) where
-  pub stays-all : (t n : ℕ) → ((v : ℕ) → t ≤ v → v < t + n → isOpen (g v) k ≡ true) → staysOpen g k t n ≡ true
-  unfolding staysOpen
-  stays-all t zero f = refl
-  stays-all t (suc n) f = rw (f t (omega arith) (omega arith)) (stays-all (suc t) n (λ v a b. f v (omega arith) (omega arith)))
+pub open-still : (g : ℕ → ℕ) (k t n : ℕ) → ((u : ℕ) → t ≤ u → u < t + n → isOpen (g u) k ≡ true) → staysOpen g k t n ≡ true
+unfolding staysOpen
+open-still g k t zero h = refl
+open-still g k t (suc n) h = rw (h t (omega arith) (omega arith)) (open-still g k (suc t) n (λ u a b. h u (omega arith) (omega arith)))
 
-  pub stays-each : (t n : ℕ) → staysOpen g k t n ≡ true → (v : ℕ) → t ≤ v → v < t + n → isOpen (g v) k ≡ true
-  unfolding staysOpen
-  stays-each t zero e v a b = absurd (omega arith)
-  stays-each t (suc n) e v a b = go (eqb v t) refl (isOpen (g t) k) refl e (λ z c. stays-each (suc t) n z v c (omega arith))
-    where
-      go : (s : Bool) → eqb v t ≡ s → (o : Bool) → isOpen (g t) k ≡ o → o && staysOpen g k (suc t) n ≡ true
-          → (staysOpen g k (suc t) n ≡ true → suc t ≤ v → isOpen (g v) k ≡ true) → isOpen (g v) k ≡ true
-      go s z false o x f = absurd (true≢false (sym x))
-      go true z true o x f = ap (λ u. isOpen (g u) k) (eqb-true v t z) ∙ o
-      go false z true o x f = let w = eqb-false v t z in f x (omega arith)
+pub open-each : (g : ℕ → ℕ) (k t n : ℕ) → staysOpen g k t n ≡ true → (u : ℕ) → t ≤ u → u < t + n → isOpen (g u) k ≡ true
+unfolding staysOpen
+open-each g k t zero h u a b = absurd (omega arith)
+open-each g k t (suc n) h u a b = go (isOpen (g t) k) refl h (λ z l. open-each g k (suc t) n z u l (omega arith)) (eqb u t) refl
+  where
+    go : (o : Bool) → isOpen (g t) k ≡ o → o && staysOpen g k (suc t) n ≡ true → (staysOpen g k (suc t) n ≡ true → suc t ≤ u → isOpen (g u) k ≡ true)
+        → (s : Bool) → eqb u t ≡ s → isOpen (g u) k ≡ true
+    go true e z f true w = ap (λ v. isOpen (g v) k) (eqb-true u t w) ∙ e
+    go true e z f false w = let d = eqb-false u t w in f z (omega arith)
+    go false e z f s w = absurd (true≢false (sym z))
+
+pub qualifies-exactly : (heads : List ℕ) (speed t : ℕ) (g : ℕ → ℕ) (k : ℕ)
+    → (qualifies heads speed t g k ≡ true)
+    ↔ ((getD heads k 0 ≡ 0 → ⊥) × ((u : ℕ) → t ≤ u → u < t + duration (getD heads k 0) speed → isOpen (g u) k ≡ true))
+unfolding qualifies
+qualifies-exactly heads speed t g k =
+    (go (eqb (getD heads k 0) 0) refl, λ p. rw (ne-eqb (getD heads k 0) 0 (p .0)) (open-still g k t (duration (getD heads k 0) speed) (p .1)))
+  where
+    go : (b : Bool) → eqb (getD heads k 0) 0 ≡ b → not b && staysOpen g k t (duration (getD heads k 0) speed) ≡ true
+        → (getD heads k 0 ≡ 0 → ⊥) × ((u : ℕ) → t ≤ u → u < t + duration (getD heads k 0) speed → isOpen (g u) k ≡ true)
+    go true z e = absurd (true≢false (sym e))
+    go false z e = (eqb-false (getD heads k 0) 0 z, open-each g k t (duration (getD heads k 0) speed) e)
 
 -- what is shown from t on decides
 

@@ -4,18 +4,18 @@
 use mathlib.Core.Path.{_≡_, refl, ap, _∙_}
 use mathlib.Core.Bool.{Bool, true, false, not, _&&_, true≢false}
 use mathlib.Core.Option.{Option, none, some}
-use Prim.Native.Nat.{ℕ, zero, suc, _+_, _-_, _≤_, _<_, min}
+use Prim.Native.Nat.{ℕ, suc, _+_, _-_, _≤_, min}
 use native.Mathlib.Omega.{arith}
 use lib.Dec.{ltb}
 use borrow.Author.Tests.{ltb-false}
 use Rattle.rule.specs.Gates.{isOpen}
 use Rattle.rule.specs.Timetable.{shown, shownNow, due}
 use Rattle.rule.specs.Port.{Port, Frame, lastOctetAt, frameAt, overran, marked, counted, portTick}
-use Rattle.rule.specs.Choice.{staysOpen}
 use Rattle.rule.specs.Acts.{Act, performed, perform}
 use Rattle.rule.specs.Machine.{ticks}
 use Rattle.rule.specs.Machines.{machine}
 use Rattle.rule.specs.Frames.{meetsClosed}
+use Rattle.rule.proofs.Choice.{open-still}
 use Rattle.rule.proofs.Jump.{meets, jump, WaitPast, FramePast, wait-sooner, frame-sooner, operating-now, waiting-now, frame-now, closed-over, ticks-jump, marked-no, counted-no}
 
 -- the frame has had its test with what is shown
@@ -39,12 +39,6 @@ tested-tick p =
 pub tested-perform : (a : Act) (p : Port) → Tested (perform a p)
 unfolding perform
 tested-perform a p = tested-again (performed a p .gates .clock) (shownNow (performed a p .gates)) (performed a p .frame)
-
--- an open gate stays open
-pub open-still : (g : ℕ → ℕ) (k t n : ℕ) → ((u : ℕ) → t ≤ u → u < t + n → isOpen (g u) k ≡ true) → staysOpen g k t n ≡ true
-unfolding staysOpen
-open-still g k t zero h = refl
-open-still g k t (suc n) h = rw (h t (omega arith) (omega arith)) (open-still g k (suc t) n (λ u a b. h u (omega arith) (omega arith)))
 
 meets-still : (g : ℕ → ℕ) (c n : ℕ) (r : Option Frame) → ((u : ℕ) → c ≤ u → u ≤ c + n → g u ≡ g c) → overran c (g c) r ≡ false → meets g c n r ≡ false
 unfolding meets

@@ -20,7 +20,7 @@ use Rattle.rule.specs.Machines.{machine}
 use Rattle.rule.specs.Frames.{meetsClosed}
 use Rattle.rule.proofs.Soundness.{Sound}
 use Rattle.rule.proofs.Orders.{both}
-use Rattle.rule.proofs.Choice.{Chosen, chosen-is, stays-all, stays-each}
+use Rattle.rule.proofs.Choice.{Chosen, chosen-is, open-still, open-each}
 use Rattle.rule.proofs.Jump.{meets, jump, ticks-jump, wait-ahead, frame-ahead, marked-no, counted-no, none-of}
 
 -- the frame being sent, if there is one, has not been counted, and its gate is open in g at each instant from t on until its last octet
@@ -42,7 +42,7 @@ open-meets : (g : ℕ → ℕ) (c n : ℕ) (r : Option Frame) → OpenFrom g c r
 unfolding meets meetsClosed
 open-meets g c n none h = refl
 open-meets g c n (some f) h =
-    ap (λ b. not (f .counted) && not b) (stays-all g (f .class) (suc c) (min n (lastOctetAt f - suc c)) (λ v a b. h .1 v (omega arith) (omega arith)))
+    ap (λ b. not (f .counted) && not b) (open-still g (f .class) (suc c) (min n (lastOctetAt f - suc c)) (λ v a b. h .1 v (omega arith) (omega arith)))
     ∙ none-of (not (f .counted))
 
 -- n instants on: the frame is as it was, or forgotten, and the counters are as they were
@@ -67,5 +67,5 @@ open-chosen heads speed t g = go (chosen heads speed t g) (chosen-is heads speed
     go (some f) h =
         let z = both (not (eqb (getD heads (f .class) 0) 0)) _ (h .0 .1 .0) in (
           ap (λ (x : Frame). x .counted) (h .1),
-          λ u a b. stays-each g (f .class) t (duration (getD heads (f .class) 0) speed) (z .1) u a (omega (arith, ap (λ (x : Frame). x .end) (h .1))),
+          λ u a b. open-each g (f .class) t (duration (getD heads (f .class) 0) speed) (z .1) u a (omega (arith, ap (λ (x : Frame). x .end) (h .1))),
         )

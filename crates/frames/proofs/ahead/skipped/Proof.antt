@@ -51,8 +51,9 @@ loop-again c =
     let l = c .before .before .before .before .before .before .loop in
     let s = c .before .before .before .before .before .before .before in
     let a = s .args in
-    skips-more (a .octets .now) (a .intervals .now) (a .len) (a .place) (a .from) (a .limit) (a .left) (l .i) (l .u) (l .inv)
-    (c .before .before .before .before .before .loop-test .taken) (omega (arith, c .before .before .before .before .if1 .left)) (s .pre .used (l .i) (c .before .before .before .before .before .loop-test .taken)) (c .before .before .if2 .left) _ (c .wide .ensures .0)
+    let one = c .before .before .before .before .before .loop-test .taken in
+    skips-more (a .octets .now) (a .intervals .now) (a .len) (a .place) (a .from) (a .limit) (a .left) (l .i) (l .u) (l .inv) one
+    (omega (arith, c .before .before .before .before .if1 .left)) (s .pre .used (l .i) one) (c .before .before .if2 .left) _ (c .wide .ensures .0)
 
 returns-3 : tie.Need-returns-3 Inv-loop μ-loop
 returns-3 c = c .before .loop .inv

@@ -27,7 +27,11 @@ pub fn closing(kept: u8) -> [u8; 128] {
 
 // An octet with class 6 open, and class 7 if both are to be.
 fn paired(octet: u8, both: bool) -> u8 {
-    if both { octet & 0x3f | 0xc0 } else { octet & 0x3f | 0x40 }
+    if both {
+        octet & 0x3f | 0xc0
+    } else {
+        octet & 0x3f | 0x40
+    }
 }
 
 // The octets C0, C1 and so on to FF, twice: classes 7 and 6 are always open. From an entry on class 7 is closed.

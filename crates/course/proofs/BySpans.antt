@@ -14,7 +14,8 @@ use Rattle.gatelist.specs.Coding.{listOf}
 use Rattle.timetable.specs.declared.Times.{Times}
 use Rattle.timetable.specs.declared.Timetable.{Timetable}
 use Rattle.timetable.specs.declared.ruling.Span.{Span}
-use Rattle.timetable.specs.Coding.{decode, Fine}
+use Rattle.timetable.specs.Coding.{decode}
+use Rattle.timetable.specs.Checks.{Fine}
 use Rattle.timetable.specs.Regime.{spanAt, cutAt, Governs}
 use Rattle.timetable.proofs.Spans.{InTime, governs, governs-cut}
 use Rattle.timetable.proofs.Records.{listIn, isThere, list-fine, list-used, table-flat, table-ruled}

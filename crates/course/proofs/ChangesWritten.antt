@@ -15,7 +15,7 @@ use Rattle.rule.specs.History.{changes}
 use Rattle.rule.proofs.Walk.{reachBy, changes-same, reach-same, changes-more, reach-more, reach-full, reach-goal}
 use Rattle.course.specs.declared.stretch.Walk.{Walk}
 use Rattle.course.specs.Journey.{Journey, room, WrittenUpTo, WalkEnds, PassPromise}
-use Rattle.course.specs.Travel.{into, instantsOf, octetsOf}
+use Rattle.course.specs.Columns.{into, instantsOf, octetsOf}
 
 -- the buffers
 

@@ -11,7 +11,7 @@ use lib.Dec.{eqb, ltb}
 use borrow.Author.Tests.{eqb-true, eqb-false, ltb-true, ltb-false}
 use lib.ListN.{length, getD, set, drop, length-append, length-set, List·getD-append}
 use lib.Seq.{getD-set-same, getD-set-other, getD-append-add, getD-drop, ext-getD}
-use Rattle.course.specs.Travel.{into}
+use Rattle.course.specs.Columns.{into}
 use Rattle.course.specs.Period.{CanRepeat, WrittenAgain}
 use Rattle.course.proofs.ChangesWritten.{length-into}
 

@@ -15,7 +15,7 @@ use Rattle.rule.specs.Machine.{onward}
 use Rattle.rule.specs.History.{changes}
 use Rattle.rule.proofs.Changes.{changes-add}
 use Rattle.rule.proofs.Walk.{reachBy}
-use Rattle.course.specs.Travel.{into}
+use Rattle.course.specs.Columns.{into}
 use Rattle.course.specs.Journey.{Journey, room, WrittenUpTo}
 use Rattle.course.specs.Period.{CanRepeat, WrittenAgain, later, same}
 use Rattle.course.proofs.ChangesWritten.{written-room}

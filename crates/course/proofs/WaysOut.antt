@@ -14,11 +14,12 @@ use Rattle.rule.specs.declared.Refusal.{Refusal}
 use Rattle.rule.specs.declared.Refusal.the-variants.{MalformedPort, AboveLargest, BeforeClock, StepTooLong}
 use Rattle.rule.specs.declared.Answer.{Answer}
 use Rattle.rule.specs.declared.Answer.the-variants as answer
-use Rattle.rule.specs.Refusals.{firstOf, accepted, answerOf, firstAnswer}
+use Rattle.rule.specs.Refusals.{firstOf, accepted}
+use Rattle.rule.specs.Answers.{answerOf, firstAnswer}
 use Rattle.rule.specs.Timetable as model
 use Rattle.rule.specs.Orders.{stepOrder}
 use Rattle.rule.specs.Machine.{log, reach}
-use Rattle.rule.specs.Machines.{timetableMachine}
+use Rattle.rule.specs.TimetableMachine.{timetableMachine}
 use Rattle.rule.specs.History.{changes}
 use Rattle.rule.proofs.Changes.{log-shown}
 use Rattle.rule.proofs.Walk.{reachBy, reach-shown}
@@ -26,10 +27,12 @@ use Rattle.rule.proofs.Reach.{stepped}
 use Rattle.rule.proofs.Orders.{both}
 use Rattle.timetable.specs.declared.Timetable.{Timetable}
 use Rattle.timetable.specs.Record.{timetableFormed}
-use Rattle.timetable.specs.Coding.{decode, Fine, Checked}
+use Rattle.timetable.specs.Coding.{decode}
+use Rattle.timetable.specs.Checks.{Fine, Checked}
 use Rattle.course.specs.declared.Course.{Course}
 use Rattle.course.specs.declared.Course.the-variants as course
-use Rattle.course.specs.Travel.{into, instantsOf, octetsOf, travelDeclines, passes, reported, courseOf, TravelsBy, Travels}
+use Rattle.course.specs.Travel.{travelDeclines, passes, reported, courseOf, TravelsBy, Travels}
+use Rattle.course.specs.Columns.{into, instantsOf, octetsOf}
 use Rattle.course.specs.Journey.{WalkEnds, journeyOf, OrderPromise}
 
 -- the order

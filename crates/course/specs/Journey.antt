@@ -9,7 +9,8 @@ use lib.ListN.{length}
 use Rattle.rule.specs.declared.Answer.{Answer}
 use Rattle.rule.specs.declared.Refusal.the-variants.{MalformedPort}
 use Rattle.rule.specs.Limits.{largestInstant}
-use Rattle.rule.specs.Refusals.{firstOf, answerOf}
+use Rattle.rule.specs.Refusals.{firstOf}
+use Rattle.rule.specs.Answers.{answerOf}
 use Rattle.rule.specs.Timetable as model
 use Rattle.rule.specs.Orders.{stepOrder}
 use Rattle.rule.specs.History.{changes}
@@ -20,7 +21,7 @@ use Rattle.timetable.specs.declared.ruling.Span.{Span}
 use Rattle.timetable.specs.Coding.{decode}
 use Rattle.timetable.specs.Regime.{Governs}
 use Rattle.course.specs.declared.stretch.Walk.{Walk}
-use Rattle.course.specs.Travel.{into, instantsOf, octetsOf}
+use Rattle.course.specs.Columns.{into, instantsOf, octetsOf}
 
 -- a step: the function that it walks, the old clock, the goal, and what stood in the buffers
 pub record Journey : Type 0 where

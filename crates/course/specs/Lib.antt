@@ -1,3 +1,4 @@
+pub mod Columns
 pub mod Travel
 pub mod Journey
 pub mod Stretch

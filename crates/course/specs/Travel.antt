@@ -4,31 +4,23 @@
 -- Assumes nothing.
 use mathlib.Core.Path.{_≡_}
 use mathlib.Core.Bool.{Bool, cond, not, _&&_}
-use mathlib.Core.List.{List, _∷_, _++_, map}
+use mathlib.Core.List.{List, _∷_}
 use mathlib.Core.Option.{Option, none, some}
 use Prim.Native.Nat.{ℕ, _+_, _-_, min}
-use lib.ListN.{length, drop}
+use lib.ListN.{length}
 use Rattle.rule.specs.declared.Refusal.{Refusal}
 use Rattle.rule.specs.declared.Refusal.the-variants.{MalformedPort}
 use Rattle.rule.specs.Refusals.{firstOf, accepted}
 use Rattle.rule.specs.Orders.{stepOrder}
 use Rattle.rule.specs.Machine.{log, reach}
-use Rattle.rule.specs.Machines.{timetableMachine}
+use Rattle.rule.specs.TimetableMachine.{timetableMachine}
 use Rattle.timetable.specs.declared.Timetable.{Timetable}
 use Rattle.timetable.specs.Record.{timetableFormed}
-use Rattle.timetable.specs.Coding.{decode, Fine}
+use Rattle.timetable.specs.Coding.{decode}
+use Rattle.timetable.specs.Checks.{Fine}
 use Rattle.course.specs.declared.Course.{Course}
+use Rattle.course.specs.Columns.{into, instantsOf, octetsOf}
 use Rattle.course.specs.declared.Course.the-variants as course
-
--- the values from place 0 on, and what stood behind them
-unfoldable pub into : List ℕ → List ℕ → List ℕ
-into vs buf = vs ++ drop (length vs) buf
-
-abbrev pub instantsOf : List (ℕ × ℕ) → List ℕ
-instantsOf l = map (λ (x : ℕ × ℕ). x .0) l
-
-abbrev pub octetsOf : List (ℕ × ℕ) → List ℕ
-octetsOf l = map (λ (x : ℕ × ℕ). x .1) l
 
 -- what a travel declines with
 unfoldable pub travelDeclines : Bool → ℕ → ℕ → Timetable → Option Refusal

@@ -23,7 +23,8 @@ use Rattle.timetable.specs.declared.Times.{Times}
 use Rattle.timetable.specs.declared.Timetable.{Timetable}
 use Rattle.timetable.specs.declared.ruling.Span.{Span}
 use Rattle.timetable.specs.declared.cursor.Stretch.{Stretch}
-use Rattle.timetable.specs.Coding.{decode, Fine}
+use Rattle.timetable.specs.Coding.{decode}
+use Rattle.timetable.specs.Checks.{Fine}
 use Rattle.timetable.specs.Regime.{spanAt, Governs}
 use Rattle.timetable.specs.Stretch.{Walkable, Plays, Runs}
 use Rattle.timetable.proofs.Spans.{InTime, governs}

@@ -14,13 +14,15 @@ use Rattle.rule.specs.declared.Answer.{Answer}
 use Rattle.rule.specs.declared.Answer.the-variants as answer
 use Rattle.rule.specs.declared.Refusal.{Refusal}
 use Rattle.rule.specs.declared.Refusal.the-variants.{MalformedPort, Speed, FrameSending, HeadLength}
-use Rattle.rule.specs.Refusals.{firstOf, firstAnswer, answerOf, accepted}
+use Rattle.rule.specs.Refusals.{firstOf, accepted}
+use Rattle.rule.specs.Answers.{firstAnswer, answerOf}
 use Rattle.rule.specs.Orders.{any, speedOffered, headOffered, transmitOrder}
 use Rattle.rule.proofs.Orders.{both, order-passed}
 use Rattle.rule.proofs.Sound.{heads-short}
 use Rattle.timetable.specs.declared.Timetable.{Timetable}
 use Rattle.timetable.specs.Record.{isMarked, timetableFormed}
-use Rattle.timetable.specs.Coding.{decode, Fine}
+use Rattle.timetable.specs.Coding.{decode}
+use Rattle.timetable.specs.Checks.{Fine}
 use Rattle.timetable.proofs.Coding.{mark-there}
 use Rattle.frames.specs.declared.Frame.{Frame}
 use Rattle.frames.specs.declared.Choice.{Choice}

@@ -13,7 +13,8 @@ use Rattle.rule.specs.Port as model
 use Rattle.rule.specs.Orders.{transmitOrder}
 use Rattle.timetable.specs.declared.Timetable.{Timetable}
 use Rattle.timetable.specs.Record.{timetableFormed}
-use Rattle.timetable.specs.Coding.{decode, Fine}
+use Rattle.timetable.specs.Coding.{decode}
+use Rattle.timetable.specs.Checks.{Fine}
 use Rattle.frames.specs.declared.Frame.{Frame}
 use Rattle.frames.specs.declared.Choice.{Choice}
 use Rattle.frames.specs.declared.Choice.the-variants as choice

@@ -13,7 +13,8 @@ use lib.ListN.{length, getD, set, take, drop, replicate, length-set, length-take
 use lib.Seq.{set-at, take-all, length-take-le, ext-getD, getD-take, getD-append-add, getD-drop}
 use Rattle.rule.specs.Entries.{Entry}
 use Rattle.gatelist.specs.declared.GateList.{GateList}
-use Rattle.gatelist.specs.Coding.{listFrom, entryOf, listOf, padded, encodeList, cleanedList, Places}
+use Rattle.gatelist.specs.Coding.{listFrom, entryOf, listOf, padded, encodeList}
+use Rattle.gatelist.specs.Places.{cleanedList, Places}
 
 -- lists made place by place
 

@@ -16,8 +16,9 @@ use Rattle.rule.specs.Entries.{Entry}
 use Rattle.rule.proofs.Orders.{both}
 use Rattle.rule.specs.Orders.{lengthOffered, hasZeroInterval}
 use Rattle.gatelist.specs.declared.GateList.{GateList}
-use Rattle.gatelist.specs.Coding.{listFrom, entryOf, entriesFrom, listOf, padded, encodeList, emptyList, cleanedList, Places}
-use Rattle.gatelist.specs.Sound.{everyBelow, placeOk, placesOk, listOk, listNone, listFormed, usedOk, restOk}
+use Rattle.gatelist.specs.Coding.{listFrom, entryOf, entriesFrom, listOf, padded, encodeList, emptyList}
+use Rattle.gatelist.specs.Places.{cleanedList, Places, usedOk, restOk}
+use Rattle.gatelist.specs.Sound.{everyBelow, placeOk, placesOk, listOk, listNone, listFormed}
 use Rattle.gatelist.specs.Promises.{FindsZero}
 use Rattle.gatelist.proofs.Coding.{list-decoded, padded-out, cleaned-encoded, cleaned-same}
 

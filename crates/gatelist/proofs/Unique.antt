@@ -6,7 +6,7 @@ use mathlib.Core.List.{List}
 use Prim.Native.Nat.{ℕ}
 use Rattle.gatelist.specs.declared.GateList.{GateList}
 use Rattle.gatelist.specs.declared.Place.{Place}
-use Rattle.gatelist.specs.Sound.{Checked}
+use Rattle.gatelist.specs.Places.{Checked}
 use Rattle.gatelist.specs.Promises.{Widens, FindsZero, Empty, CopiesUsed, ShowsGate, FindsPlace, FindsOctet}
 
 pub empty-unique : (x y : GateList) → Empty x → Empty y → x ≡ y

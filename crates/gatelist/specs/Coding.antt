@@ -1,10 +1,9 @@
 -- Document 01, 'The list and its octets' (17.7.22): a list record always has 128 places, of which the first `len` are used; the list that it stands
 -- for, and the record that a list has: unused places are zero. A place that the arrays do not have reads as 0.
 -- Assumes nothing.
-use mathlib.Core.Path.{_≡_}
 use mathlib.Core.List.{List, [], _∷_, _++_, map}
 use Prim.Native.Nat.{ℕ, zero, suc, _-_}
-use lib.ListN.{length, getD, take, replicate}
+use lib.ListN.{length, getD, replicate}
 use Rattle.rule.specs.Limits.{largestList}
 use Rattle.rule.specs.Entries.{Entry}
 use Rattle.gatelist.specs.declared.GateList.{GateList}
@@ -35,12 +34,3 @@ encodeList l = record { octets = padded (map (λ e. e .octet) l); intervals = pa
 -- all zeros
 unfoldable pub emptyList : GateList
 emptyList = record { octets = replicate largestList 0; intervals = replicate largestList 0; len = 0 }
-
--- the unused places of a record set to zero
-unfoldable pub cleanedList : GateList → GateList
-cleanedList l = record { octets = padded (take (l .len) (l .octets)); intervals = padded (take (l .len) (l .intervals)); len = l .len }
-
--- the lengths that the arrays' types give
-pub record Places (l : GateList) : Type 0 where
-  pub octets : length (l .octets) ≡ largestList
-  pub intervals : length (l .intervals) ≡ largestList

@@ -1,4 +1,5 @@
 pub mod Coding
 pub mod Sound
+pub mod Places
 pub mod Lookup
 pub mod Promises

@@ -1,8 +1,7 @@
 -- Document 01, the sentence on 14, as far as it concerns a list record: a present list has 1 to 128 entries, used intervals not 0, unused places 0;
 -- an absent one is all zeros.
 -- Assumes nothing.
-use mathlib.Core.Path.{_≡_}
-use mathlib.Core.Bool.{Bool, true, cond, not, _&&_, _||_}
+use mathlib.Core.Bool.{Bool, true, cond, not, _&&_}
 use mathlib.Core.List.{List}
 use Prim.Native.Nat.{ℕ, zero, suc}
 use lib.Dec.{ltb, eqb}
@@ -10,7 +9,6 @@ use lib.ListN.{getD}
 use Rattle.rule.specs.Limits.{largestList}
 use Rattle.rule.specs.Orders.{lengthOffered}
 use Rattle.gatelist.specs.declared.GateList.{GateList}
-use Rattle.gatelist.specs.Coding.{Places}
 
 -- p holds of every number below n
 unfoldable pub everyBelow : (ℕ → Bool) → ℕ → Bool
@@ -20,14 +18,6 @@ everyBelow p (suc n) = everyBelow p n && p n
 -- the place k, with n in use
 unfoldable pub placeOk : List ℕ → List ℕ → ℕ → ℕ → Bool
 placeOk os is n k = cond (ltb k n) (not (eqb (getD is k 0) 0)) (eqb (getD is k 0) 0 && eqb (getD os k 0) 0)
-
--- the place k, with n in use, is no used place with the interval 0
-unfoldable pub usedOk : List ℕ → ℕ → ℕ → Bool
-usedOk is n k = not (ltb k n && eqb (getD is k 0) 0)
-
--- the place k, with n in use, is no unused place with something else than 0
-unfoldable pub restOk : List ℕ → ℕ → ℕ → Bool
-restOk xs n k = ltb k n || eqb (getD xs k 0) 0
 
 unfoldable pub placesOk : GateList → Bool
 placesOk l = everyBelow (placeOk (l .octets) (l .intervals) (l .len)) largestList
@@ -42,8 +32,3 @@ listNone l = eqb (l .len) 0 && placesOk l
 -- a list that is there, or an absent one
 unfoldable pub listFormed : Bool → GateList → Bool
 listFormed there l = cond there (listOk l) (listNone l)
-
--- the answer of the check, with what the record's type says of its arrays
-pub record Checked (l : GateList) (there answer : Bool) : Type 0 where
-  pub found : answer ≡ listFormed there l
-  pub places : Places l

@@ -3,7 +3,8 @@
 ghost use mathlib.Core.Path.{_≡_};
 ghost use Prim.Native.Nat.{_<_, min};
 ghost use lib.ListN.{length};
-ghost use Rattle.gatelist.specs.Sound.{everyBelow, placeOk, usedOk, restOk, Checked};
+ghost use Rattle.gatelist.specs.Sound.{everyBelow, placeOk};
+ghost use Rattle.gatelist.specs.Places.{usedOk, restOk, Checked};
 ghost use Rattle.gatelist.specs.Lookup.{IntervalAt};
 ghost use Rattle.gatelist.specs.Promises.{Widens, FindsZero, Empty, CopiesUsed, ShowsGate, FindsPlace, FindsOctet};
 

@@ -17,8 +17,9 @@ use Rattle.rule.specs.Timetable.{shown, shownNow}
 use Rattle.rule.specs.Port.{newPort}
 use Rattle.rule.specs.Acts as rule
 use Rattle.rule.specs.Orders.{lookOrder, newOrder}
-use Rattle.rule.specs.Machine as machine
-use Rattle.rule.specs.Machine.{Outcome, ticks, elapsed, replay, Try, Besides}
+use Rattle.rule.specs.Series as series
+use Rattle.rule.specs.Machine.{Outcome, ticks, replay, Try, Besides}
+use Rattle.rule.specs.Series.{elapsed}
 use Rattle.rule.specs.Machines.{machine}
 use Rattle.rule.specs.History.{ruleChanges}
 use Rattle.rule.specs.Frames.{gateActs, octetOf}
@@ -78,7 +79,7 @@ module _ (m : model.Port) (s : Sound m) (f : ℕ → ℕ) (g : (n : ℕ) → sho
   record-comes : (goal : ℕ) (at at′ os os′ : List ℕ) (r : Stepped) → Steps (encode m) goal at at′ os os′ r
       → shown (decode (r .port) .gates) (r .port .gates .times .clock) ≡ f (r .port .gates .times .clock)
   record-comes goal at at′ os os′ r k =
-      let n : ℕ = elapsed machine (machine.step goal (min (length at) (length os))) m in
+      let n : ℕ = elapsed machine (series.step goal (min (length at) (length os))) m in
       let e : r .port ≡ encode (ticks machine n m) = k .port ∙ afterStep-is m s goal (min (length at) (length os)) in
       let c : r .port .gates .times .clock ≡ m .gates .clock + n =
       ap (λ (q : Port). q .gates .times .clock) e ∙ clock-encode (ticks machine n m) ∙ clock-ticks machine lawful n m in
@@ -90,11 +91,11 @@ module _ (m : model.Port) (s : Sound m) (f : ℕ → ℕ) (g : (n : ℕ) → sho
 -- the machine's run, its port as a record
 
 recorded-demand : (t₀ s₀ : ℕ) → t₀ ≤ largestInstant → (cs : List Call)
-    → Demand t₀ s₀ cs (recorded (machine.run machine (machineCalls cs) (newPort t₀ s₀)))
+    → Demand t₀ s₀ cs (recorded (series.run machine (machineCalls cs) (newPort t₀ s₀)))
 unfolding encode timetable.encode
 recorded-demand t₀ s₀ h cs =
     let s : Sound (newPort t₀ s₀) = sound-new t₀ s₀ h in
-    let o : Outcome model.Port ℕ rule.Act = machine.run machine (machineCalls cs) (newPort t₀ s₀) in
+    let o : Outcome model.Port ℕ rule.Act = series.run machine (machineCalls cs) (newPort t₀ s₀) in
     let d = port.demand-3 t₀ s₀ (machineCalls cs) in
     let z : Sound (o .port) = sound-run (machineCalls cs) (newPort t₀ s₀) s in
     record {
@@ -131,7 +132,7 @@ pub idle-left-out : (t₀ s₀ : ℕ) → t₀ ≤ largestInstant → (cs : List
 idle-left-out t₀ s₀ h cs c i ds =
     let m : model.Port = newPort t₀ s₀ in
     let e = ap (λ (o : Outcome Port ℕ rule.Act). o .port) (run-is cs m (sound-new t₀ s₀ h)) in
-    idle-between cs (encode m) (subst⁻¹ Whole e (whole-encode (machine.run machine (machineCalls cs) m .port))) c i ds
+    idle-between cs (encode m) (subst⁻¹ Whole e (whole-encode (series.run machine (machineCalls cs) m .port))) c i ds
 
 -- what the acts and the end determine
 demand-same : {t₀ s₀ : ℕ} {cs ds : List Call} {o q : Outcome Port ℕ rule.Act} → Demand t₀ s₀ cs o → Demand t₀ s₀ ds q
@@ -151,17 +152,17 @@ module _ (t₀ s₀ : ℕ) (h : t₀ ≤ largestInstant) (r : Acted) (k : Makes 
   -- the same acts tried at the same instants, and besides them any refused ones, looks and steps, with any rooms: the same are accepted; and if the end
   -- is the same too, so are the record, octets and counts in it, and the changes joined end to end
   acts-are : (gs : List Event) → Kept (r .port) gs
-      → outcome (r .port) gs .acts ≡ machine.run machine (machineCalls (callsOf gs)) (newPort t₀ s₀) .acts
+      → outcome (r .port) gs .acts ≡ series.run machine (machineCalls (callsOf gs)) (newPort t₀ s₀) .acts
   acts-are gs n =
       ap (λ (o : Outcome Port ℕ rule.Act). o .acts)
       (demand-3 t₀ s₀ h r k gs n .given ∙ run-is (callsOf gs) (newPort t₀ s₀) (sound-new t₀ s₀ h))
 
-  tries-as : (gs : List Event) → Kept (r .port) gs → tries (r .port) gs ≡ machine.tries machine (machineCalls (callsOf gs)) (newPort t₀ s₀)
+  tries-as : (gs : List Event) → Kept (r .port) gs → tries (r .port) gs ≡ series.tries machine (machineCalls (callsOf gs)) (newPort t₀ s₀)
   tries-as gs n =
       tries-are (r .port) gs n ∙ ap (triesOf (callsOf gs)) (new-is t₀ s₀ h r k) ∙ tries-is (callsOf gs) (newPort t₀ s₀) (sound-new t₀ s₀ h)
 
   besides-as : Besides (tries (r .port) es) (tries (r .port) fs)
-      → Besides (machine.tries machine (machineCalls (callsOf es)) (newPort t₀ s₀)) (machine.tries machine (machineCalls (callsOf fs)) (newPort t₀ s₀))
+      → Besides (series.tries machine (machineCalls (callsOf es)) (newPort t₀ s₀)) (series.tries machine (machineCalls (callsOf fs)) (newPort t₀ s₀))
   besides-as b = subst (λ (x : List (Try rule.Act) × List (Try rule.Act)). Besides (x .0) (x .1)) (λ i. (tries-as es l i, tries-as fs m i)) b
 
   pub same-tries : Besides (tries (r .port) es) (tries (r .port) fs) → outcome (r .port) es .acts ≡ outcome (r .port) fs .acts

@@ -11,7 +11,8 @@ use lib.Dec.{eqb}
 use lib.ListN.{length, take, drop, length-map}
 use borrow.Author.Tests.{ne-eqb}
 use Rattle.rule.specs.declared.Refusal.{Refusal}
-use Rattle.rule.specs.Refusals.{numberOf, accepted, answerOf}
+use Rattle.rule.specs.Refusals.{numberOf, accepted}
+use Rattle.rule.specs.Answers.{answerOf}
 use Rattle.rule.specs.Timetable.{shown}
 use Rattle.rule.specs.Port.{Frame}
 use Rattle.rule.specs.Acts as rule
@@ -22,7 +23,7 @@ use Rattle.frames.proofs.Unique.{choice-told}
 use Rattle.port.specs.declared.Port.{Port}
 use Rattle.port.specs.Coding.{decode}
 use Rattle.port.specs.Answers.{writtenOf}
-use Rattle.course.specs.Travel.{into, instantsOf, octetsOf}
+use Rattle.course.specs.Columns.{into, instantsOf, octetsOf}
 use Rattle.port.specs.Acts.{declines, after, lookDeclines}
 use Rattle.port.specs.Step.{stepDeclines, passes, reported, afterStep}
 use Rattle.port.proofs.Numbers.{number-of, answer-told, lookedOf, looked-number, looked-octet, steppedOf, stepped-number, choice-number}

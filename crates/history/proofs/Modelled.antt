@@ -11,7 +11,8 @@ use Rattle.rule.specs.Refusals.{firstOf, accepted}
 use Rattle.rule.specs.Port as model
 use Rattle.rule.specs.Acts.{Act, perform}
 use Rattle.rule.specs.Orders.{actOrder, stepOrder, accepts, acceptsGoal}
-use Rattle.rule.specs.Machine.{ticks, log, reach, elapsed, step}
+use Rattle.rule.specs.Machine.{ticks, log, reach}
+use Rattle.rule.specs.Series.{elapsed, step}
 use Rattle.rule.specs.Machines.{machine}
 use Rattle.rule.proofs.Soundness.{Sound}
 use Rattle.rule.proofs.Orders.{goal-passed}

@@ -31,7 +31,7 @@ use Rattle.port.specs.declared.Port.{Port}
 use Rattle.port.specs.declared.StepAnswer.the-variants as answer
 use Rattle.port.specs.Record.{wellFormed}
 use Rattle.port.specs.Coding.{decode, encode}
-use Rattle.course.specs.Travel.{into}
+use Rattle.course.specs.Columns.{into}
 use Rattle.port.specs.Step.{stepDeclines, passes, reported, afterStep}
 use Rattle.port.proofs.Coding.{decode-encode, clock-encode}
 use Rattle.port.proofs.Numbers.{stepped-told}

@@ -19,8 +19,9 @@ use Rattle.rule.specs.Port.{newPort}
 use Rattle.rule.specs.Acts as rule
 use Rattle.rule.specs.Acts.{perform}
 use Rattle.rule.specs.Orders.{accepts}
-use Rattle.rule.specs.Machine as machine
-use Rattle.rule.specs.Machine.{Outcome, ticks, log, replay, replayLog}
+use Rattle.rule.specs.Series as series
+use Rattle.rule.specs.Machine.{Outcome, ticks, log, replay}
+use Rattle.rule.specs.Series.{replayLog}
 use Rattle.rule.specs.Machines.{machine}
 use Rattle.rule.specs.History.{changes}
 use Rattle.rule.proofs.Soundness.{Sound}
@@ -200,7 +201,7 @@ module _ (heads : List ℕ) (speed : ℕ) (m : model.Port) (s : Sound m) (class 
   -- any calls that bring no act
   module _ (p : Port) (k : p ≡ encode sending) (es : List Event) (l : Kept p es) (a : outcome p es .acts ≡ []) where
     ran : Outcome model.Port ℕ rule.Act
-    ran = machine.run machine (machineCalls (callsOf es)) sending
+    ran = series.run machine (machineCalls (callsOf es)) sending
 
     outcome-ran : outcome p es ≡ recorded ran
     unfolding ran
@@ -227,7 +228,7 @@ module _ (heads : List ℕ) (speed : ℕ) (m : model.Port) (s : Sound m) (class 
 module _ (t₀ s₀ : ℕ) (z : t₀ ≤ largestInstant) (r₀ : Acted) (k₀ : Makes t₀ s₀ r₀) (fs : List Event) (l₀ : Kept (r₀ .port) fs)
     (heads : List ℕ) (speed class start last : ℕ) where
   before : model.Port
-  before = machine.run machine (machineCalls (callsOf fs)) (newPort t₀ s₀) .port
+  before = series.run machine (machineCalls (callsOf fs)) (newPort t₀ s₀) .port
 
   before-is : outcome (r₀ .port) fs .port ≡ encode before
   unfolding before

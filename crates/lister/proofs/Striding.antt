@@ -29,7 +29,7 @@ use Rattle.port.specs.declared.Stepped.{Stepped}
 use Rattle.port.specs.declared.StepAnswer.the-variants as stepAnswer
 use Rattle.port.specs.Coding.{decode, encode, Fine}
 use Rattle.port.specs.Answers.{steppedNumber, writtenOf}
-use Rattle.course.specs.Travel.{instantsOf, octetsOf, into}
+use Rattle.course.specs.Columns.{instantsOf, octetsOf, into}
 use Rattle.port.specs.Step.{stepDeclines, passes, reported, afterStep, StepsBy, Steps}
 use Rattle.port.proofs.Coding.{decode-encode, encoded-fine, clock-encode}
 use Rattle.lister.specs.declared.Listed.{Listed}

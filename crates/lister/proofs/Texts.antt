@@ -10,7 +10,7 @@ use lib.ListN.{length, getD, take, drop, length-append, List·getD-append, List�
 use lib.Seq.{take-length, take-suc, paste-zero}
 use Rattle.rule.specs.declared.Refusal.{Refusal}
 use Rattle.rule.specs.Refusals.{numberOf}
-use Rattle.course.specs.Travel.{into, instantsOf, octetsOf}
+use Rattle.course.specs.Columns.{into, instantsOf, octetsOf}
 use Rattle.text.specs.Decimal.{decimalOf}
 use Rattle.text.specs.Put.{hexOf, Puts}
 use Rattle.text.proofs.Putting.{put-stands, stands-put, put-append}

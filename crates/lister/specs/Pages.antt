@@ -14,7 +14,7 @@ use Rattle.rule.specs.Machine.{ticks, log}
 use Rattle.rule.specs.Machines.{machine}
 use Rattle.port.specs.declared.Port.{Port}
 use Rattle.port.specs.Coding.{decode, encode, Fine}
-use Rattle.course.specs.Travel.{into}
+use Rattle.course.specs.Columns.{into}
 use Rattle.port.specs.Step.{stepDeclines}
 use Rattle.lister.specs.declared.Listed.{Listed}
 use Rattle.lister.specs.declared.Listed.the-variants.{Whole, Cut}

@@ -19,7 +19,8 @@ use Rattle.rule.specs.Refusals.{firstOf}
 use Rattle.rule.specs.Orders.{lengthOffered, hasZeroInterval}
 use Rattle.rule.specs.Entries.{Entry}
 use Rattle.gatelist.specs.declared.GateList.{GateList}
-use Rattle.gatelist.specs.Coding.{listFrom, entryOf, listOf, encodeList, cleanedList, Places}
+use Rattle.gatelist.specs.Coding.{listFrom, entryOf, listOf, encodeList}
+use Rattle.gatelist.specs.Places.{cleanedList, Places}
 use Rattle.octets.specs.Octets.{entryOctets, octetsOf, intervalAt, entryAt, entryOrder, refusedAt, refusalFrom, readRefusal, reading, readList, writeOrder, writing, Writing, writeList}
 use Rattle.octets.proofs.Words.{octets-word, word-octets}
 use Rattle.rule.proofs.Refusals.{number-some}

@@ -12,7 +12,8 @@ use borrow.Author.Tests.{ltb-false}
 use Rattle.rule.specs.Limits.{largestInstant}
 use Rattle.rule.specs.declared.Refusal.{Refusal}
 use Rattle.rule.specs.declared.Refusal.the-variants.{AboveLargest}
-use Rattle.rule.specs.Refusals.{firstOf, accepted, answerOf, numbered}
+use Rattle.rule.specs.Refusals.{firstOf, accepted, numbered}
+use Rattle.rule.specs.Answers.{answerOf}
 use Rattle.rule.specs.Timetable.{shown}
 use Rattle.rule.specs.Port.{newPort}
 use Rattle.rule.specs.Acts.{Act, perform}

@@ -8,6 +8,7 @@ use Rattle.rule.proofs.Orders.{both}
 use Rattle.rule.proofs.Soundness.{Sound}
 use Rattle.timetable.specs.Record.{timetableFormed}
 use Rattle.timetable.specs.Coding as timetable
+use Rattle.timetable.specs.Checks as checks
 use Rattle.timetable.proofs.Coding as timed
 use Rattle.frames.specs.Frame.{frameFormed, FineFrame}
 use Rattle.frames.proofs.Frames.{frame-decoded, frame-fine, frame-formed}
@@ -20,7 +21,7 @@ unfolding decode encode
 decode-encode m i = record { gates = timed.decode-encode (m .gates) i; frame = frame-decoded (m .frame) i; overruns = m .overruns }
 
 -- from its parts, and back
-pub fine-parts : (p : Port) → timetable.Fine (p .gates) → FineFrame (p .frame) (p .gates .times .clock) → Fine p
+pub fine-parts : (p : Port) → checks.Fine (p .gates) → FineFrame (p .frame) (p .gates .times .clock) → Fine p
 unfolding decode encode timetable.decode
 fine-parts p g f = record {
   whole = λ i. record { frame = f .whole i; gates = g .whole i; overruns = p .overruns };
@@ -28,7 +29,7 @@ fine-parts p g f = record {
 }
 
 module _ (p : Port) (k : Fine p) where
-  pub gates-fine : timetable.Fine (p .gates)
+  pub gates-fine : checks.Fine (p .gates)
   unfolding decode encode
   gates-fine = record { whole = ap (λ (q : Port). q .gates) (k .whole); sound = k .sound .gates }
 
@@ -36,14 +37,14 @@ module _ (p : Port) (k : Fine p) where
   unfolding decode encode timetable.decode
   frame-part = record { whole = ap (λ (q : Port). q .frame) (k .whole); sound = k .sound .frame }
 
-pub fine : (p : Port) → (timetableFormed (p .gates) ≡ true → timetable.Fine (p .gates)) → wellFormed p ≡ true → Fine p
+pub fine : (p : Port) → (timetableFormed (p .gates) ≡ true → checks.Fine (p .gates)) → wellFormed p ≡ true → Fine p
 unfolding wellFormed
 fine p k e =
     let a = both (timetableFormed (p .gates)) (frameFormed (p .frame) (p .gates .times .clock)) e in
     fine-parts p (k (a .0)) (frame-fine (p .frame) (p .gates .times .clock) (a .1))
 
 -- what the two checks tell
-pub checked : (p : Port) (b c : Bool) → timetable.Checked (p .gates) b → c ≡ frameFormed (p .frame) (p .gates .times .clock) → Checked p (b && c)
+pub checked : (p : Port) (b c : Bool) → checks.Checked (p .gates) b → c ≡ frameFormed (p .frame) (p .gates .times .clock) → Checked p (b && c)
 unfolding wellFormed
 checked p b c k e =
     let z : b && c ≡ wellFormed p = λ i. k .is i && e i in

@@ -9,7 +9,8 @@ use native.Mathlib.Omega.{arith}
 use Rattle.rule.specs.declared.Answer.{Answer}
 use Rattle.rule.specs.declared.Answer.the-variants as answer
 use Rattle.rule.specs.declared.Refusal.{Refusal}
-use Rattle.rule.specs.Refusals.{numberOf, accepted, numbered, answerOf, answerNumber}
+use Rattle.rule.specs.Refusals.{numberOf, accepted, numbered, answerNumber}
+use Rattle.rule.specs.Answers.{answerOf}
 use Rattle.rule.specs.Port.{Frame}
 use Rattle.rule.proofs.Refusals.{number-same}
 use Rattle.frames.specs.Decision.{choiceOf, choiceNumber}

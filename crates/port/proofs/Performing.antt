@@ -11,7 +11,8 @@ use Rattle.rule.specs.declared.Answer.{Answer}
 use Rattle.rule.specs.declared.Answer.the-variants.{Done, Refused}
 use Rattle.rule.specs.declared.Refusal.{Refusal}
 use Rattle.rule.specs.declared.Refusal.the-variants.{MalformedPort, AboveLargest}
-use Rattle.rule.specs.Refusals.{firstOf, accepted, answerOf, answerNumber}
+use Rattle.rule.specs.Refusals.{firstOf, accepted, answerNumber}
+use Rattle.rule.specs.Answers.{answerOf}
 use Rattle.rule.specs.Acts.{Act, GateAct, gates, performGates, performed, perform}
 use Rattle.rule.specs.Orders.{actOrder, newOrder, accepts}
 use Rattle.rule.specs.Port as model

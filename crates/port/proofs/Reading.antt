@@ -18,7 +18,7 @@ use Rattle.rule.proofs.Jump.{meets, meets-none}
 use Rattle.rule.proofs.Walk.{First, ReadBack, read-back, shutIn, meets-more, meets-later, meets-ended}
 use Rattle.timetable.specs.Record.{isMarked}
 use Rattle.timetable.specs.Coding.{present}
-use Rattle.course.specs.Travel.{into}
+use Rattle.course.specs.Columns.{into}
 use Rattle.frames.specs.declared.Frame as record-frame
 use Rattle.frames.specs.Frame.{sentFrame, decodeFrame}
 use Rattle.port.specs.Meeting.{Holds, MetBy}

@@ -7,11 +7,13 @@ use Prim.Native.Nat.{ℕ}
 use borrow.Author.Tests.{eq-eqb, ne-eqb}
 use Rattle.rule.specs.declared.Answer.{Answer}
 use Rattle.rule.specs.declared.Refusal.the-variants.{MalformedPort}
-use Rattle.rule.specs.Refusals.{firstOf, answerOf}
+use Rattle.rule.specs.Refusals.{firstOf}
+use Rattle.rule.specs.Answers.{answerOf}
 use Rattle.rule.specs.Acts.{gates, submit, performed}
 use Rattle.rule.specs.Orders.{submitOrder, acceptsGates, accepts}
 use Rattle.gatelist.specs.declared.GateList.{GateList}
-use Rattle.gatelist.specs.Coding.{listOf, cleanedList, Places}
+use Rattle.gatelist.specs.Coding.{listOf}
+use Rattle.gatelist.specs.Places.{cleanedList, Places}
 use Rattle.gatelist.specs.Promises.{CopiesUsed}
 use Rattle.timetable.specs.declared.Times.{Times}
 use Rattle.timetable.specs.Record.{oldList, newList}

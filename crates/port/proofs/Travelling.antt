@@ -28,12 +28,14 @@ use Rattle.rule.proofs.Walk.{reach-shown}
 use Rattle.timetable.specs.declared.Timetable.{Timetable}
 use Rattle.timetable.specs.Record.{isMarked, timetableFormed}
 use Rattle.timetable.specs.Coding as timetable
+use Rattle.timetable.specs.Checks as checks
 use Rattle.timetable.specs.Updates.{withTimes, clocked, movedTable}
 use Rattle.timetable.proofs.Records.{clock-fine, moved-is}
 use Rattle.course.specs.declared.Course.{Course}
 use Rattle.course.specs.declared.Course.the-variants as course
 use Rattle.course.specs.Travel as travel
-use Rattle.course.specs.Travel.{into, instantsOf, octetsOf, travelDeclines, Travels}
+use Rattle.course.specs.Travel.{travelDeclines, Travels}
+use Rattle.course.specs.Columns.{into, instantsOf, octetsOf}
 use Rattle.course.proofs.WaysOut.{travel-accepted, Arrives, travels-refused, travels-arrives}
 use Rattle.frames.specs.declared.Frame.{Frame}
 use Rattle.frames.specs.Frame.{decodeFrame, encodeFrame, frameFormed, FineFrame}
@@ -73,7 +75,7 @@ unfolding into
 column-fits f l buf now n k e = omega (arith, ap length e ∙ length-append (map f l) (drop (length (map f l)) buf), length-map l f)
 
 -- the parts at t, if the frame met what it met on the way, are those of the port that the ticks to t come to
-module _ (p : Port) (whole : timetable.Fine (p .gates)) (sent : FineFrame (p .frame) (p .gates .times .clock)) (t : ℕ) (later : p .gates .times .clock ≤ t)
+module _ (p : Port) (whole : checks.Fine (p .gates)) (sent : FineFrame (p .frame) (p .gates .times .clock)) (t : ℕ) (later : p .gates .times .clock ≤ t)
     (hit : Bool) (met : hit ≡ meets (gates.shown (timetable.decode (p .gates))) (p .gates .times .clock) (t - p .gates .times .clock) (decodeFrame (p .frame))) where
   parts-ticks : (f : Frame) (g : Timetable) (v : List ℕ) → f ≡ forgottenFrame t (markedFrame hit (p .frame)) → g ≡ movedTable t (p .gates)
       → v ≡ countedFor hit (p .frame) (p .overruns)

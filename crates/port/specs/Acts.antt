@@ -16,7 +16,6 @@ use Rattle.rule.specs.Acts.{Act, Submission, perform}
 use Rattle.rule.specs.Orders.{actOrder, lookOrder, newOrder}
 use Rattle.gatelist.specs.declared.GateList.{GateList}
 use Rattle.gatelist.specs.Coding.{listOf}
-use Rattle.submission.specs.Judgement.{submissionOf}
 use Rattle.port.specs.declared.Port.{Port}
 use Rattle.port.specs.declared.Acted.{Acted}
 use Rattle.port.specs.declared.Looked.{Looked}
@@ -42,7 +41,8 @@ pub record Performs (a : Act) (p : Port) (r : Acted) : Type 0 where
 
 -- what is submitted: the list record, the cycle's numerator and denominator, the extension, the base time
 abbrev pub submission : GateList → ℕ → ℕ → ℕ → ℕ → Submission
-submission list numerator denominator extension base = submissionOf (listOf list) numerator denominator extension base
+submission list numerator denominator extension base =
+    record { numerator = numerator; denominator = denominator; extension = extension; base = base; list = listOf list }
 
 -- an answer with the port that is handed back
 abbrev pub doneWith : Port → Acted

@@ -8,7 +8,7 @@ use lib.ListN.{length}
 use Rattle.rule.specs.Limits.{largestInstant}
 use Rattle.rule.specs.History.{changes}
 use Rattle.rule.proofs.Jump.{meets}
-use Rattle.course.specs.Travel.{into, instantsOf, octetsOf}
+use Rattle.course.specs.Columns.{into, instantsOf, octetsOf}
 use Rattle.frames.specs.declared.Frame.{Frame}
 use Rattle.frames.specs.Frame.{decodeFrame}
 

@@ -14,7 +14,7 @@ use Rattle.rule.specs.Refusals.{accepted, numbered}
 use Rattle.rule.specs.Orders.{stepOrder}
 use Rattle.rule.specs.Machine.{ticks, log, reach}
 use Rattle.rule.specs.Machines.{machine}
-use Rattle.course.specs.Travel.{into, instantsOf, octetsOf}
+use Rattle.course.specs.Columns.{into, instantsOf, octetsOf}
 use Rattle.port.specs.declared.Port.{Port}
 use Rattle.port.specs.declared.Stepped.{Stepped}
 use Rattle.port.specs.Coding.{decode, encode}

@@ -12,8 +12,9 @@ use borrow.Author.Tests.{eq-eqb}
 use Rattle.rule.specs.Timetable.{Timetable, shown, shownNow, tick}
 use Rattle.rule.specs.Acts.{GateAct, performGates}
 use Rattle.rule.specs.Orders.{acceptsGates}
-use Rattle.rule.specs.Machine.{ticks, noted, log, Call, step, attempt, Outcome, run, elapsed}
-use Rattle.rule.specs.Machines.{timetableMachine}
+use Rattle.rule.specs.Machine.{ticks, noted, log, Outcome}
+use Rattle.rule.specs.Series.{Call, step, attempt, run, elapsed}
+use Rattle.rule.specs.TimetableMachine.{timetableMachine}
 use Rattle.rule.specs.History.{History, ruleOctet, changes, ruleChanges}
 use Rattle.rule.proofs.Cut.{cases, clock-ticks, Timely, run-timely}
 use Rattle.rule.proofs.Laws.{timetable-lawful}

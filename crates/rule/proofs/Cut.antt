@@ -10,7 +10,8 @@ use mathlib.Core.List.{List, [], _∷_, _++_, append-assoc}
 use Prim.Native.Nat.{ℕ, zero, suc, _+_, _-_, _≤_}
 use native.Mathlib.Nat.{zero-add, suc-add, sub-self}
 use native.Mathlib.Omega.{arith}
-use Rattle.rule.specs.Machine.{Machine, Call, step, attempt, Outcome, ticks, noted, log, elapsed, run, withAct, replay, replayLog, Try, Besides, tries}
+use Rattle.rule.specs.Machine.{Machine, Outcome, ticks, noted, log, replay, Try, Besides}
+use Rattle.rule.specs.Series.{Call, step, attempt, elapsed, run, withAct, replayLog, tries}
 
 -- what holds of both sides of a choice holds of the choice; each side has its own equation
 pub cases : {A : Type 0} (P : A → Type 0) (b : Bool) (x y : A) → (b ≡ true → P x) → (b ≡ false → P y) → P (cond b x y)

@@ -10,8 +10,10 @@ use lib.ListN.{getD}
 use Rattle.rule.specs.Timetable.{Timetable, shownNow, newTimetable}
 use Rattle.rule.specs.Port.{Port, newPort}
 use Rattle.rule.specs.Acts.{GateAct, Act}
-use Rattle.rule.specs.Machine.{ticks, Call, Outcome, run, replay, replayLog, Besides, tries}
-use Rattle.rule.specs.Machines.{timetableMachine, machine}
+use Rattle.rule.specs.Machine.{ticks, Outcome, replay, Besides}
+use Rattle.rule.specs.Series.{Call, run, replayLog, tries}
+use Rattle.rule.specs.Machines.{machine}
+use Rattle.rule.specs.TimetableMachine.{timetableMachine}
 use Rattle.rule.specs.History.{ruleOctet, ruleErrors, ruleChanges}
 use Rattle.rule.specs.Frames.{gateActs, octetOf, ruleOverruns}
 use Rattle.rule.proofs.Cut.{run-port, run-out, one-outcome, besides-acts}

@@ -10,8 +10,10 @@ use Rattle.rule.specs.Timetable.{Timetable, shownNow, tick}
 use Rattle.rule.specs.Port.{Port, portTick}
 use Rattle.rule.specs.Acts.{GateAct, Act, gates, transmit, performGates, perform}
 use Rattle.rule.specs.Orders.{acceptsGates, accepts, acceptsGoal}
-use Rattle.rule.specs.Machine.{onward, ticks, noted, log, reach, Call, step, attempt, Outcome, withAct, elapsed, run}
-use Rattle.rule.specs.Machines.{timetableMachine, machine}
+use Rattle.rule.specs.Machine.{onward, ticks, noted, log, reach, Outcome}
+use Rattle.rule.specs.Series.{Call, step, attempt, withAct, elapsed, run}
+use Rattle.rule.specs.Machines.{machine}
+use Rattle.rule.specs.TimetableMachine.{timetableMachine}
 use Rattle.rule.specs.Frames.{gateActs}
 
 -- time

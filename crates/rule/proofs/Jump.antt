@@ -17,7 +17,8 @@ use Rattle.rule.specs.Timetable.{Timetable, Waiting, shown, shownNow, op
 use Rattle.rule.specs.Port.{Port, Frame, lastOctetAt, forgottenAt, frameAt, overran, marked, counted, portTick}
 use Rattle.rule.specs.Choice.{staysOpen}
 use Rattle.rule.specs.Machine.{ticks}
-use Rattle.rule.specs.Machines.{timetableMachine, machine}
+use Rattle.rule.specs.Machines.{machine}
+use Rattle.rule.specs.TimetableMachine.{timetableMachine}
 use Rattle.rule.specs.Frames.{meetsClosed}
 use Rattle.rule.proofs.Soundness.{SoundWaiting, SoundFrame}
 use Rattle.rule.proofs.Shown.{shown-tick}

@@ -5,7 +5,8 @@ use Prim.Native.Nat.{suc}
 use Rattle.rule.specs.Timetable.{Timetable, tick}
 use Rattle.rule.specs.Port.{Port, portTick}
 use Rattle.rule.specs.Acts.{GateAct, on, off, standing, submit, submitted, performGates, Act, gates, transmit, perform}
-use Rattle.rule.specs.Machines.{timetableMachine, machine}
+use Rattle.rule.specs.Machines.{machine}
+use Rattle.rule.specs.TimetableMachine.{timetableMachine}
 use Rattle.rule.proofs.Cut.{Lawful}
 
 clock-gates : (a : GateAct) (p : Timetable) → performGates a p .clock ≡ p .clock

@@ -20,7 +20,8 @@ use Rattle.rule.specs.Port.{Port, Frame, lastOctetAt, forgottenAt, frame
 use Rattle.rule.specs.Choice.{duration, qualifies, highest, frameFor, chosen}
 use Rattle.rule.specs.Acts.{Act, gates, transmit, performed, perform}
 use Rattle.rule.specs.Orders.{acceptsGates, accepts}
-use Rattle.rule.specs.Machine.{ticks, Call, step, attempt, Outcome, run, elapsed}
+use Rattle.rule.specs.Machine.{ticks, Outcome}
+use Rattle.rule.specs.Series.{Call, step, attempt, run, elapsed}
 use Rattle.rule.specs.Machines.{machine}
 use Rattle.rule.specs.Frames.{PortHistory, gateActs, octetOf, frameBegun, shut, shutLater, bit, overrunOf, ruleOverruns}
 use Rattle.rule.proofs.Cut.{cases, clock-ticks, Timely, timely-mono, run-timely}

@@ -11,7 +11,7 @@ use borrow.Author.Tests.{leb-true, le-leb}
 use Rattle.rule.specs.Cycle.{Config}
 use Rattle.rule.specs.Timetable.{Timetable, Waiting, octetUnder, shown, shownNow, operatingAt, waitingAt, tick}
 use Rattle.rule.specs.Machine.{ticks}
-use Rattle.rule.specs.Machines.{timetableMachine}
+use Rattle.rule.specs.TimetableMachine.{timetableMachine}
 use Rattle.rule.proofs.Cut.{clock-ticks}
 use Rattle.rule.proofs.Laws.{timetable-lawful}
 

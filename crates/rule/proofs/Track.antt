@@ -15,8 +15,9 @@ use Rattle.rule.specs.Cycle.{Config}
 use Rattle.rule.specs.Timetable.{Timetable, Waiting, raise, octetUnder, shown, operatingAt, waitingAt, tick, newTimetable}
 use Rattle.rule.specs.Acts.{GateAct, on, off, standing, submit, isSome, configOf, errorsAfter, submitted, performGates}
 use Rattle.rule.specs.Orders.{acceptsGates}
-use Rattle.rule.specs.Machine.{ticks, Call, step, attempt, Outcome, run, elapsed}
-use Rattle.rule.specs.Machines.{timetableMachine}
+use Rattle.rule.specs.Machine.{ticks, Outcome}
+use Rattle.rule.specs.Series.{Call, step, attempt, run, elapsed}
+use Rattle.rule.specs.TimetableMachine.{timetableMachine}
 use Rattle.rule.specs.History.{History, markOf, standingOf, submissionsOf, octetBy, ruleOctet, operates, ruleErrors}
 use Rattle.rule.proofs.Cut.{cases}
 use Rattle.rule.proofs.Orders.{submit-passed}

@@ -5,7 +5,7 @@ use mathlib.Core.Bool.{Bool}
 use Prim.Native.Nat.{ℕ}
 use Rattle.rule.specs.declared.Refusal.{Refusal}
 use Rattle.rule.specs.declared.Answer.{Answer}
-use Rattle.rule.specs.Refusals.{Numbers, First}
+use Rattle.rule.specs.Answers.{Numbers, First}
 
 pub number-unique : (r : Refusal) (n m : ℕ) → Numbers r n → Numbers r m → n ≡ m
 number-unique r n m p q = p ∙ sym q

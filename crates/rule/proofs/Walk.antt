@@ -16,7 +16,7 @@ use Rattle.rule.specs.Timetable.{Timetable, shown, shownNow, tick}
 use Rattle.rule.specs.Port.{Frame, lastOctetAt}
 use Rattle.rule.specs.Choice.{staysOpen}
 use Rattle.rule.specs.Machine.{ticks, onward, reach}
-use Rattle.rule.specs.Machines.{timetableMachine}
+use Rattle.rule.specs.TimetableMachine.{timetableMachine}
 use Rattle.rule.specs.History.{changes}
 use Rattle.rule.specs.Frames.{meetsClosed}
 use Rattle.rule.proofs.Shown.{now-ticks}

@@ -1,5 +1,6 @@
 pub mod Limits
 pub mod Refusals
+pub mod Answers
 pub mod Gates
 pub mod Entries
 pub mod Cycle
@@ -10,5 +11,7 @@ pub mod Acts
 pub mod Orders
 pub mod Machine
 pub mod Machines
+pub mod Series
+pub mod TimetableMachine
 pub mod History
 pub mod Frames

@@ -1,10 +1,10 @@
--- A machine that goes on by one nanosecond at a time, is acted on between, and shows something at every instant. Nothing of gates is in it: cutting a
--- span into steps, the room of each step and refused calls (document 01, 'Step', and demand 3) are spoken of here, once.
+-- A machine that goes on by one nanosecond at a time, is acted on between, and shows something at every instant. Nothing of gates is in it: the changes of
+-- a span, how far a step gets with its room, what acts alone come to and what refused tries are (document 01, 'Step', and demand 3) is said here, once.
 -- Assumes nothing.
 use mathlib.Core.Path.{_≡_}
-use mathlib.Core.Bool.{Bool, true, false, cond}
+use mathlib.Core.Bool.{Bool, true, false}
 use mathlib.Core.Logic.{_⊎_}
-use mathlib.Core.List.{List, [], _∷_, _++_}
+use mathlib.Core.List.{List, [], _∷_}
 use Prim.Native.Nat.{ℕ, zero, suc, _-_}
 
 pub record Machine : Type 1 where
@@ -21,19 +21,11 @@ pub record Machine : Type 1 where
   pub perform : Act → State → State
   pub acceptsGoal : ℕ → State → Bool
 
--- a call: a step towards a goal with room for so many changes, or an act; either may be refused
-pub data Call (A : Type 0) : Type 0 where
-  step : (goal room : ℕ) → Call A
-  attempt : A → Call A
-
 -- what a series of calls comes to: the final state, the changes joined end to end, the accepted acts with their instants
 pub record Outcome (S O A : Type 0) : Type 0 where
   pub port : S
   pub out : List (ℕ × O)
   pub acts : List (ℕ × A)
-
-abbrev pub withAct : {S O A : Type 0} → ℕ → A → Outcome S O A → Outcome S O A
-withAct t a r = record { port = r .port; out = r .out; acts = (t, a) ∷ r .acts }
 
 -- one instant more, and the rest by f with the room that is left; a change wants room
 abbrev pub onward : Bool → ℕ → (ℕ → ℕ) → ℕ
@@ -74,30 +66,7 @@ module _ (M : Machine) where
   reach zero m s = 0
   reach (suc n) m s = onward (same (now s) (now (tick s))) m (λ r. reach n r (tick s))
 
-  -- the instants that a call lets pass: none if it is refused, or an act
-  unfoldable pub elapsed : Call Act → State → ℕ
-  elapsed (step goal room) s = cond (acceptsGoal goal s) (reach (goal - clock s) room s) 0
-  elapsed (attempt a) s = 0
-
-  unfoldable pub run : List (Call Act) → State → Outcome State Out Act
-  run [] s = record { port = s; out = []; acts = [] }
-  run (step goal room ∷ cs) s =
-      let k : ℕ = elapsed (step goal room) s in
-      let r = run cs (ticks k s) in
-      record { port = r .port; out = log k s ++ r .out; acts = r .acts }
-  run (attempt a ∷ cs) s = cond (accepts a s) (withAct (clock s) a (run cs (perform a s))) (run cs s)
-
   -- the acts alone, each at its instant, and the end: no steps, no rooms, no refusals
   unfoldable pub replay : List (ℕ × Act) → ℕ → State → State
   replay [] e s = ticks (e - clock s) s
   replay (x ∷ l) e s = replay l e (perform (x .1) (ticks (x .0 - clock s) s))
-
-  unfoldable pub replayLog : List (ℕ × Act) → ℕ → State → List (ℕ × Out)
-  replayLog [] e s = log (e - clock s) s
-  replayLog (x ∷ l) e s = log (x .0 - clock s) s ++ replayLog l e (perform (x .1) (ticks (x .0 - clock s) s))
-
-  -- the acts that are tried, each at its instant, with whether it is accepted
-  unfoldable pub tries : List (Call Act) → State → List (Try Act)
-  tries [] s = []
-  tries (step goal room ∷ cs) s = tries cs (ticks (elapsed (step goal room) s) s)
-  tries (attempt a ∷ cs) s = ((clock s, a), accepts a s) ∷ tries cs (cond (accepts a s) (perform a s) s)

@@ -1,26 +1,12 @@
--- A timetable and a port as machines: document 01's acts and orders.
+-- A port as a machine: document 01's acts and orders.
 -- Assumes nothing.
 use Prim.Native.Nat.{ℕ}
 use lib.Dec.{eqb}
 use Rattle.rule.specs.Machine.{Machine}
-use Rattle.rule.specs.Timetable.{Timetable, shownNow, tick}
+use Rattle.rule.specs.Timetable.{shownNow}
 use Rattle.rule.specs.Port.{Port, portTick}
-use Rattle.rule.specs.Acts.{GateAct, performGates, Act, perform}
-use Rattle.rule.specs.Orders.{acceptsGates, accepts, acceptsGoal}
-
-abbrev pub timetableMachine : Machine
-timetableMachine = record {
-  State = Timetable;
-  Out = ℕ;
-  Act = GateAct;
-  clock = λ p. p .clock;
-  tick = tick;
-  now = shownNow;
-  same = eqb;
-  accepts = acceptsGates;
-  perform = performGates;
-  acceptsGoal = acceptsGoal;
-}
+use Rattle.rule.specs.Acts.{Act, perform}
+use Rattle.rule.specs.Orders.{accepts, acceptsGoal}
 
 abbrev pub machine : Machine
 machine = record {

@@ -1,7 +1,6 @@
 -- Document 01, 'Numbers returned when a call declines': the number of each refusal, and how an order of tests chooses one. The orders themselves
 -- are in `Orders`, beside the acts they belong to; reading and writing a list have theirs with the list's octets.
 -- Assumes nothing.
-use mathlib.Core.Path.{_≡_}
 use mathlib.Core.Bool.{Bool, true, false, cond}
 use mathlib.Core.List.{List, [], _∷_}
 use mathlib.Core.Option.{Option, none, some}
@@ -30,10 +29,6 @@ numberOf MalformedSheet = 15
 numberOf BufferShort = 16
 numberOf FrameSending = 17
 
--- what `number` promises of its answer
-abbrev pub Numbers : Refusal → ℕ → Type 0
-Numbers r n = n ≡ numberOf r
-
 -- an order is a list of tests, each with its refusal: the first test that holds gives the refusal
 abbrev pub firstOf : List (Bool × Refusal) → Option Refusal
 firstOf [] = none
@@ -44,11 +39,6 @@ abbrev pub accepted : Option Refusal → Bool
 accepted none = true
 accepted (some r) = false
 
--- an act is done, or refused
-abbrev pub answerOf : Option Refusal → Answer
-answerOf none = answer.Done
-answerOf (some r) = answer.Refused r
-
 -- the number of a refusal, none if there is none; and that of an answer
 abbrev pub numbered : Option Refusal → Option ℕ
 numbered none = none
@@ -57,11 +47,3 @@ numbered (some r) = some (numberOf r)
 abbrev pub answerNumber : Answer → Option ℕ
 answerNumber answer.Done = none
 answerNumber (answer.Refused r) = some (numberOf r)
-
--- one test of an order, and the answer of the tests behind it
-unfoldable pub firstAnswer : Bool → Refusal → Answer → Answer
-firstAnswer test r rest = cond test (answer.Refused r) rest
-
--- what `first` promises of its answer
-abbrev pub First : Bool → Refusal → Answer → Answer → Type 0
-First test r rest a = a ≡ firstAnswer test r rest

@@ -1,6 +1,6 @@
 // What a call declines with: a name for each number of document 01, 'Numbers returned when a call declines'. Every crate above uses these names;
 // the number itself is for whoever prints or stores an answer.
-ghost use Rattle.rule.specs.Refusals.{Numbers, First};
+ghost use Rattle.rule.specs.Answers.{Numbers, First};
 
 pub enum Refusal {
     CutShort,

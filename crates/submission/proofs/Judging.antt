@@ -9,7 +9,8 @@ use Rattle.rule.specs.Limits.{largestInstant}
 use Rattle.rule.specs.declared.Answer.{Answer}
 use Rattle.rule.specs.declared.Answer.the-variants as answer
 use Rattle.rule.specs.declared.Refusal.the-variants.{ZeroInterval, ListLength, SwitchedOff, ChangeWaits, CycleTime, AboveLargest, MalformedPort}
-use Rattle.rule.specs.Refusals.{firstOf, firstAnswer, answerOf}
+use Rattle.rule.specs.Refusals.{firstOf}
+use Rattle.rule.specs.Answers.{firstAnswer, answerOf}
 use Rattle.rule.specs.Cycle.{cycleOffered}
 use Rattle.rule.specs.Orders.{lengthOffered, hasZeroInterval, submitOrder}
 use Rattle.gatelist.specs.Coding.{entryOf, entriesFrom}

@@ -20,12 +20,14 @@ use Rattle.rule.proofs.ClosedForms.{change-near}
 use Rattle.rule.proofs.Orders.{both, absent, PassedSubmit, submit-passed}
 use Rattle.rule.proofs.Sound.{cycle-range}
 use Rattle.gatelist.specs.declared.GateList.{GateList}
-use Rattle.gatelist.specs.Coding.{entryOf, listOf, encodeList, cleanedList, Places}
+use Rattle.gatelist.specs.Coding.{entryOf, listOf, encodeList}
+use Rattle.gatelist.specs.Places.{cleanedList, Places}
 use Rattle.gatelist.proofs.Coding.{length-from, cleaned-encoded}
 use Rattle.timetable.specs.declared.Times.{Times}
 use Rattle.timetable.specs.declared.Timetable.{Timetable}
 use Rattle.timetable.specs.Record.{isMarked}
-use Rattle.timetable.specs.Coding.{oldConfig, decode, encode, Fine, changeBy}
+use Rattle.timetable.specs.Coding.{oldConfig, decode, encode}
+use Rattle.timetable.specs.Checks.{Fine, changeBy}
 use Rattle.timetable.proofs.Beginnings.{change-by}
 use Rattle.timetable.proofs.Coding.{mark-there}
 use Rattle.timetable.proofs.Records.{clock-fine}

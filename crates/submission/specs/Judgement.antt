@@ -6,7 +6,8 @@ use mathlib.Core.List.{List, _∷_}
 use Prim.Native.Nat.{ℕ}
 use Rattle.rule.specs.declared.Answer.{Answer}
 use Rattle.rule.specs.declared.Refusal.the-variants.{MalformedPort}
-use Rattle.rule.specs.Refusals.{firstOf, answerOf}
+use Rattle.rule.specs.Refusals.{firstOf}
+use Rattle.rule.specs.Answers.{answerOf}
 use Rattle.rule.specs.Entries.{Entry}
 use Rattle.rule.specs.Acts.{Submission}
 use Rattle.rule.specs.Orders.{submitOrder}

@@ -10,7 +10,7 @@ use Rattle.gatelist.specs.declared.GateList.{GateList}
 use Rattle.timetable.specs.declared.Times.{Times}
 use Rattle.timetable.specs.declared.Timetable.{Timetable}
 use Rattle.timetable.specs.Record.{isMarked}
-use Rattle.timetable.specs.Coding.{changeBy}
+use Rattle.timetable.specs.Checks.{changeBy}
 
 -- ConfigChangeError, with a base time
 unfoldable pub errorsFor : ℕ → Times → ℕ

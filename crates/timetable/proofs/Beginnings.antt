@@ -12,7 +12,8 @@ use Rattle.rule.specs.Entries.{Entry}
 use Rattle.rule.specs.Cycle.{Config, startNo, lastNo, changeInstant}
 use Rattle.rule.proofs.ClosedForms.{last-start, change-closed}
 use Rattle.timetable.specs.declared.Times.{Times}
-use Rattle.timetable.specs.Coding.{oldConfig, changeBy}
+use Rattle.timetable.specs.Coding.{oldConfig}
+use Rattle.timetable.specs.Checks.{changeBy}
 
 -- the plain start: with no cycle, before the first start, after it
 

@@ -20,14 +20,16 @@ use Rattle.rule.specs.Orders.{hasZeroInterval}
 use Rattle.rule.proofs.Orders.{both}
 use Rattle.rule.proofs.Soundness.{SoundConfig, SoundOperating, SoundWaiting, SoundTimetable}
 use Rattle.gatelist.specs.declared.GateList.{GateList}
-use Rattle.gatelist.specs.Coding.{listFrom, entryOf, listOf, padded, encodeList, emptyList, Places}
+use Rattle.gatelist.specs.Coding.{listFrom, entryOf, listOf, padded, encodeList, emptyList}
+use Rattle.gatelist.specs.Places.{Places}
 use Rattle.gatelist.specs.Sound.{listFormed}
 use Rattle.gatelist.proofs.Coding.{length-from, list-decoded}
 use Rattle.gatelist.proofs.Sound.{list-used, list-free, list-encoded, list-empty, encoded-ok, empty-none}
 use Rattle.timetable.specs.declared.Times.{Times}
 use Rattle.timetable.specs.declared.Timetable.{Timetable}
 use Rattle.timetable.specs.Record.{isMarked, markOk, onlyIf, oldList, newList, marksOk, idleWhileOff, configNumbers, operatingFormed, waitsInTime, waitingFormed, timetableFormed}
-use Rattle.timetable.specs.Coding.{present, oldConfig, newWaiting, decode, markOf, noConfig, orNothing, orNoWaiting, encode, Fine, Checked}
+use Rattle.timetable.specs.Coding.{present, oldConfig, newWaiting, decode, markOf, noConfig, orNothing, orNoWaiting, encode}
+use Rattle.timetable.specs.Checks.{Fine, Checked}
 
 -- back from the record
 

@@ -2,7 +2,7 @@
 -- and time make of it, in the record and in the model.
 -- Assumes nothing.
 use mathlib.Core.Path.{_≡_, refl, ap, sym, _∙_, subst}
-use mathlib.Core.Bool.{Bool, true, false, cond, _&&_}
+use mathlib.Core.Bool.{Bool, true, false, cond}
 use mathlib.Core.Option.{Option, none, some}
 use Prim.Native.Nat.{ℕ, _+_, _≤_, _<_}
 use native.Mathlib.Nat.{zero-add, lt-of-not-le}
@@ -24,7 +24,8 @@ use Rattle.timetable.specs.declared.Times.{Times}
 use Rattle.timetable.specs.declared.Timetable.{Timetable}
 use Rattle.timetable.specs.declared.ruling.Span.{Span}
 use Rattle.timetable.specs.Record.{isMarked, oldList, newList}
-use Rattle.timetable.specs.Coding.{present, oldConfig, newWaiting, decode, encode, Fine}
+use Rattle.timetable.specs.Coding.{present, oldConfig, newWaiting, decode, encode}
+use Rattle.timetable.specs.Checks.{Fine}
 use Rattle.timetable.specs.Regime.{Governs}
 use Rattle.timetable.specs.Cursor.{Used}
 use Rattle.timetable.specs.Updates.{withTimes, switched, clocked, clearedTable, installedWith, movedTable}

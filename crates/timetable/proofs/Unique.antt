@@ -5,7 +5,7 @@
 use mathlib.Core.Path.{_≡_, sym, _∙_}
 use mathlib.Core.Bool.{Bool}
 use Rattle.timetable.specs.declared.Timetable.{Timetable}
-use Rattle.timetable.specs.Coding.{Checked}
+use Rattle.timetable.specs.Checks.{Checked}
 
 pub equation-unique : {A : Type 0} (v r s : A) → r ≡ v → s ≡ v → r ≡ s
 equation-unique v r s k l = k ∙ sym l

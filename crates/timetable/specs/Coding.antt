@@ -1,21 +1,19 @@
 -- The record of a timetable stands for document 01's timetable (the model of crate `rule`): `decode` reads a record, `encode` writes the one record of a
 -- timetable. An absent configuration is all zeros, and so are unused places of a list.
 -- Assumes nothing.
-use mathlib.Core.Path.{_≡_}
 use mathlib.Core.Bool.{Bool, true, false, cond}
 use mathlib.Core.List.{List, []}
 use mathlib.Core.Option.{Option, none, some}
 use Prim.Native.Nat.{ℕ}
 use lib.ListN.{length}
 use Rattle.rule.specs.Entries.{Entry}
-use Rattle.rule.specs.Cycle.{Config, changeInstant}
+use Rattle.rule.specs.Cycle.{Config}
 use Rattle.rule.specs.Timetable as model
 use Rattle.rule.specs.Acts.{isSome}
-use Rattle.rule.proofs.Soundness.{SoundTimetable}
 use Rattle.gatelist.specs.Coding.{listOf, encodeList}
 use Rattle.timetable.specs.declared.Times.{Times}
 use Rattle.timetable.specs.declared.Timetable.{Timetable}
-use Rattle.timetable.specs.Record.{isMarked, oldList, newList, timetableFormed}
+use Rattle.timetable.specs.Record.{isMarked, oldList, newList}
 
 -- a part that its mark says is there
 abbrev pub present : {A : Type 0} → Bool → A → Option A
@@ -91,16 +89,3 @@ encode m =
       newoctets = encodeList (w .config .list) .octets;
       newintervals = encodeList (w .config .list) .intervals;
     }
-
--- a record that is the encoding of a sound timetable; and what the check of a record tells
-pub record Fine (g : Timetable) : Type 0 where
-  pub whole : encode (decode g) ≡ g
-  pub sound : SoundTimetable (decode g)
-
-pub record Checked (g : Timetable) (answer : Bool) : Type 0 where
-  pub is : answer ≡ timetableFormed g
-  pub fine : answer ≡ true → Fine g
-
--- the change instant depends on the cycle alone
-abbrev pub changeBy : ℕ → ℕ → ℕ → ℕ
-changeBy a base c = changeInstant (record { start = base; cycle = c; extension = 0; list = [] }) base a

@@ -1,5 +1,6 @@
 pub mod Record
 pub mod Coding
+pub mod Checks
 pub mod Regime
 pub mod Cursor
 pub mod Stretch

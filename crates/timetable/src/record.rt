@@ -2,7 +2,8 @@
 ghost use mathlib.Core.Path.{_≡_};
 ghost use Rattle.rule.specs.Timetable.{newTimetable};
 ghost use Rattle.timetable.specs.Record.{markOk, configNumbers, waitsInTime, idleWhileOff};
-ghost use Rattle.timetable.specs.Coding.{encode, Checked};
+ghost use Rattle.timetable.specs.Coding.{encode};
+ghost use Rattle.timetable.specs.Checks.{Checked};
 use crate::Times;
 use crate::Timetable;
 use gatelist::GateList;

@@ -7,7 +7,8 @@ use mathlib.Core.List.{List}
 use Prim.Native.Nat.{ℕ, _≤_, _-_, min}
 use native.Mathlib.Omega.{arith}
 use borrow.Author.Needs.{needs}
-use Rattle.gatelist.specs.Sound.{everyBelow, usedOk}
+use Rattle.gatelist.specs.Sound.{everyBelow}
+use Rattle.gatelist.specs.Places.{usedOk}
 use Rattle.gatelist.proofs.Sound.{twice, used-more, used-end}
 use Rattle.gatelist.proofs.intervals_ok.Statement.{statement}
 use Rattle.gatelist.proofs.intervals_ok.Tie as tie

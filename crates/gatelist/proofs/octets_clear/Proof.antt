@@ -7,7 +7,8 @@ use mathlib.Core.List.{List}
 use Prim.Native.Nat.{ℕ, _≤_, _-_, min}
 use native.Mathlib.Omega.{arith}
 use borrow.Author.Needs.{needs}
-use Rattle.gatelist.specs.Sound.{everyBelow, restOk}
+use Rattle.gatelist.specs.Sound.{everyBelow}
+use Rattle.gatelist.specs.Places.{restOk}
 use Rattle.gatelist.proofs.Sound.{rest-start, rest-more}
 use Rattle.gatelist.proofs.octets_clear.Statement.{statement}
 use Rattle.gatelist.proofs.octets_clear.Tie as tie

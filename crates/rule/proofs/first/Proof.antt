@@ -1,6 +1,6 @@
 -- `rule::first` meets its contract: each way out is a side of the choice.
 -- Assumes nothing.
-use Rattle.rule.specs.Refusals.{firstAnswer}
+use Rattle.rule.specs.Answers.{firstAnswer}
 use Rattle.rule.proofs.first.Statement.{statement}
 use Rattle.rule.proofs.first.Tie as tie
 

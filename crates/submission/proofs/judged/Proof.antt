@@ -1,7 +1,6 @@
 -- `submission::judged` meets its contract: the chain of tests is the order (`judges`).
 -- Assumes nothing.
 use borrow.Author.Needs.{needs}
-use mathlib.Core.Path.{_∙_}
 use Rattle.gatelist.proofs.Sound.{zero-listed}
 use Rattle.submission.proofs.Judging.{judges}
 use Rattle.submission.proofs.judged.Statement.{statement}

@@ -3,7 +3,7 @@
 use borrow.Author.Needs.{needs}
 use mathlib.Core.Path.{ap, _∙_}
 use Prim.Native.Nat.{_%_}
-use Rattle.timetable.specs.Coding.{changeBy}
+use Rattle.timetable.specs.Checks.{changeBy}
 use Rattle.submission.specs.Placement.{placedBy, placedTimes}
 use Rattle.submission.proofs.placed.Statement.{statement}
 use Rattle.submission.proofs.placed.Tie as tie

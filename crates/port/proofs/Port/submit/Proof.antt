@@ -5,10 +5,10 @@ use borrow.Author.Needs.{needs}
 use mathlib.Core.Path.{_≡_, _∙_}
 use mathlib.Core.Bool.{true, _&&_}
 use mathlib.Core.Logic.{⊎-elim}
-use Rattle.rule.specs.Refusals.{answerOf}
+use Rattle.rule.specs.Answers.{answerOf}
 use Rattle.rule.specs.Acts.{Act, gates, submit, performed}
 use Rattle.rule.specs.Orders.{accepts}
-use Rattle.gatelist.specs.Coding.{Places}
+use Rattle.gatelist.specs.Places.{Places}
 use Rattle.port.specs.declared.Port.{Port}
 use Rattle.port.specs.Record.{wellFormed}
 use Rattle.port.specs.Coding.{decode, encode, Fine, Checked}

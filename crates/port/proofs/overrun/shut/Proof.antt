@@ -1,7 +1,6 @@
 -- `port::overrun::shut` meets its contract: its tests are those of the definition (`shut-is`).
 -- Assumes nothing.
 use borrow.Author.Needs.{needs}
-use mathlib.Core.Path.{_∙_}
 use Rattle.port.proofs.Overruns.{shut-is}
 use Rattle.port.proofs.overrun.shut.Statement.{statement}
 use Rattle.port.proofs.overrun.shut.Tie as tie

@@ -1,7 +1,6 @@
 -- `timetable::record::formed` meets its contract: its parts are those of the definition, and a record that passes them is fine (`checked`).
 -- Assumes nothing.
 use borrow.Author.Needs.{needs}
-use mathlib.Core.Path.{_≡_}
 use Rattle.timetable.specs.declared.Timetable.{Timetable}
 use Rattle.timetable.specs.Record.{timetableFormed, marksOk, operatingFormed, waitingFormed}
 use Rattle.timetable.proofs.Coding.{checked}

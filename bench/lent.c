@@ -52,7 +52,7 @@ int main(int argc, char **argv) {
         struct kurfandaz_answer a = kurfandaz_transmit(&port, heads, slow ? 10 : 1000);
         if (a.number != 0)
             return 1;
-        sum += port.frame.class_ + port.frame.end;
+        sum += port.frame.class_ + port.frame.last + port.frame.end;
         port.frame = (struct kurfandaz_frame){0};
     }
     printf("%s %lu checksum %lu\n", name, times, (unsigned long)sum);

@@ -26,7 +26,7 @@ extern "C" {
 /* Limits, in nanoseconds: the largest instant, the longest cycle, the longest span of a frame. */
 #define KURFANDAZ_LARGEST_INSTANT UINT64_C(9000000000000000000)
 #define KURFANDAZ_LARGEST_CYCLE UINT64_C(1000000000)
-#define KURFANDAZ_LONGEST_SPAN UINT64_C(1606400)
+#define KURFANDAZ_LONGEST_SPAN UINT64_C(1616000)
 
 /* Frame lengths in octets, with FCS. */
 #define KURFANDAZ_SHORTEST_FRAME 64
@@ -46,7 +46,8 @@ struct kurfandaz_frame {
     uint8_t class_;  /* its class, 0 to 7 */
     uint8_t counted; /* mark: its overrun has been counted */
     uint64_t start;  /* the instant at which it began */
-    uint64_t end;    /* the instant at which it is over, and forgotten */
+    uint64_t last;   /* the instant of its last octet, after start and before end */
+    uint64_t end;    /* the instant at which the next may start, and it is forgotten */
 };
 
 /* The numbers of a timetable. Those of a configuration that is absent are all 0. */
@@ -90,7 +91,8 @@ struct kurfandaz_answer {
     uint8_t chosen; /* 1 if a frame was chosen */
     uint8_t class_; /* its class */
     uint64_t start; /* the instant at which it begins: the clock */
-    uint64_t end;   /* the instant at which it is over */
+    uint64_t last;  /* the instant of its last octet */
+    uint64_t end;   /* the instant at which the next may start */
 };
 
 /* The layout on which the archive counts. */
@@ -106,8 +108,9 @@ KURFANDAZ_AT(frame, present, 0);
 KURFANDAZ_AT(frame, class_, 1);
 KURFANDAZ_AT(frame, counted, 2);
 KURFANDAZ_AT(frame, start, 8);
-KURFANDAZ_AT(frame, end, 16);
-KURFANDAZ_SIZE(frame, 24);
+KURFANDAZ_AT(frame, last, 16);
+KURFANDAZ_AT(frame, end, 24);
+KURFANDAZ_SIZE(frame, 32);
 KURFANDAZ_AT(times, clock, 0);
 KURFANDAZ_AT(times, on, 8);
 KURFANDAZ_AT(times, standing, 9);
@@ -131,20 +134,21 @@ KURFANDAZ_AT(timetable, newoctets, 736);
 KURFANDAZ_AT(timetable, newintervals, 864);
 KURFANDAZ_SIZE(timetable, 1376);
 KURFANDAZ_AT(port, frame, 0);
-KURFANDAZ_AT(port, gates, 24);
-KURFANDAZ_AT(port, overruns, 1400);
-KURFANDAZ_SIZE(port, 1464);
+KURFANDAZ_AT(port, gates, 32);
+KURFANDAZ_AT(port, overruns, 1408);
+KURFANDAZ_SIZE(port, 1472);
 KURFANDAZ_AT(answer, number, 0);
 KURFANDAZ_AT(answer, chosen, 1);
 KURFANDAZ_AT(answer, class_, 2);
 KURFANDAZ_AT(answer, start, 8);
-KURFANDAZ_AT(answer, end, 16);
-KURFANDAZ_SIZE(answer, 24);
+KURFANDAZ_AT(answer, last, 16);
+KURFANDAZ_AT(answer, end, 24);
+KURFANDAZ_SIZE(answer, 32);
 
 /* Chooses the next frame and stores it in the port: of the highest class that has one, whose gate is open now, and whose frame ends before the gate
  * closes. heads: the length in octets of the frame at the head of each class's queue, 0 if the queue is empty. speed: in Mbit/s.
  * Refused, in this order: 14, 13, 17, 12. A refused call changes no octet of the port; neither does one that chooses nothing. Else the port's frame
- * has its five fields set, and no other field changes. */
+ * has its six fields set, and no other field changes. */
 struct kurfandaz_answer kurfandaz_transmit(struct kurfandaz_port *port, const uint64_t heads[KURFANDAZ_CLASSES], uint64_t speed);
 
 #ifdef __cplusplus

@@ -131,7 +131,7 @@ static uint64_t run_transmits(uint64_t times, uint64_t head, uint64_t speed)
         heads[k] = head;
     for (uint64_t i = 0; i < times; i++) {
         need(port_transmit(&port, heads, speed));
-        sum += port.frame.class + port.frame.end;
+        sum += port.frame.class + port.frame.last + port.frame.end;
         port.frame = (struct port_frame){0};
     }
     return sum;

@@ -120,8 +120,8 @@ static void say_port(const struct port *p)
            (unsigned)p->waiting_present, w->list.length, w->cycle, w->extension,
            p->waiting.submitted, w->start);
     say_places(&w->list);
-    printf(" %u %u %" PRIu64 " %" PRIu64 " %u", (unsigned)f->present, (unsigned)f->class,
-           f->start, f->end, (unsigned)f->counted);
+    printf(" %u %u %" PRIu64 " %" PRIu64 " %" PRIu64 " %u", (unsigned)f->present,
+           (unsigned)f->class, f->start, f->last, f->end, (unsigned)f->counted);
     printf(" %" PRIu64, p->errors);
     for (unsigned k = 0; k < 8; k++)
         printf(" %" PRIu64, p->overruns[k]);
@@ -196,10 +196,25 @@ static bool call_transmit(struct line *l)
     if (no)
         printf("refused %u", no);
     else if (port.frame.present)
-        printf("frame %u %" PRIu64 " %" PRIu64, (unsigned)port.frame.class, port.frame.start,
-               port.frame.end);
+        printf("frame %u %" PRIu64 " %" PRIu64 " %" PRIu64, (unsigned)port.frame.class,
+               port.frame.start, port.frame.last, port.frame.end);
     else
         fputs("none", stdout);
+    return true;
+}
+
+static bool call_duration(struct line *l)
+{
+    const uint64_t length = number64(l);
+    const uint64_t speed = number64(l);
+    uint64_t last, next;
+    if (!whole(l))
+        return false;
+    const unsigned no = port_duration(length, speed, &last, &next);
+    if (no)
+        printf("refused %u", no);
+    else
+        printf("duration %" PRIu64 " %" PRIu64, last, next);
     return true;
 }
 
@@ -329,6 +344,7 @@ static bool call_load(struct line *l)
     p.frame.present = number8(l);
     p.frame.class = number8(l);
     p.frame.start = number64(l);
+    p.frame.last = number64(l);
     p.frame.end = number64(l);
     p.frame.counted = number8(l);
     p.errors = number64(l);
@@ -356,6 +372,7 @@ static const struct {
     {"new", call_new},           {"on", call_on},     {"off", call_off},   {"standing", call_standing},
     {"submit", call_submit},     {"step", call_step}, {"look", call_look}, {"transmit", call_transmit},
     {"read", call_read},         {"write", call_write}, {"load", call_load}, {"show", call_show},
+    {"duration", call_duration},
 };
 
 static void answer(const char *text, size_t length)

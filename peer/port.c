@@ -1,5 +1,5 @@
 /* The port, as a driver would have it: no heap, closed forms over cycles, a
- * cursor over entries. Quoted words and section names are document 01's.
+ * cursor over entries. Quoted words are the documents', section names 01's.
  *
  * Each WRONG_ switch makes one deliberate error, for tests/beside-wrong. */
 #include "port.h"
@@ -62,9 +62,16 @@ static inline bool configuration_good(const struct port_configuration *c, bool p
 static bool frame_good(const struct port_frame *f, uint64_t clock)
 {
     if (!f->present)
-        return (f->class | f->counted | f->start | f->end) == 0;
+        return (f->class | f->counted | f->start | f->last | f->end) == 0;
+#ifdef WRONG_LAST_FREE
+    const bool last_good = true;
+#elif defined WRONG_LAST_AT_END
+    const bool last_good = f->start < f->last && f->last <= f->end;
+#else
+    const bool last_good = f->start < f->last && f->last < f->end;
+#endif
     /* The order matters: the difference means something only after it. */
-    return f->class <= 7 && f->start <= clock && clock < f->end &&
+    return f->class <= 7 && f->start <= clock && clock < f->end && last_good &&
            f->end - f->start <= PORT_LONGEST_FRAME;
 }
 
@@ -237,10 +244,16 @@ static bool wants_count(const struct port *p)
 }
 
 /* "If, after an act ..., its gate is closed": asked after every accepted
- * act; only a frame that is not counted yet needs the octet. */
+ * act; only a frame that is not counted yet needs the octet. In the gap behind
+ * its last octet a frame cannot overrun. */
 static void after_act(struct port *p)
 {
-    if (wants_count(p) && !is_open(octet_at(p, p->clock), p->frame.class))
+#ifdef WRONG_OVERRUN_ACT
+    const uint64_t until = p->frame.end;
+#else
+    const uint64_t until = p->frame.last;
+#endif
+    if (wants_count(p) && p->clock < until && !is_open(octet_at(p, p->clock), p->frame.class))
         count_overrun(p);
 }
 
@@ -564,18 +577,23 @@ static uint64_t walk(const struct port *p, struct report *r, uint64_t to)
     return stop;
 }
 
-/* "At any instant after the old clock that a step reaches, ... to before its
- * end": each octet shown there is the one at the old clock, if it lasts, or a
- * reported one. */
+/* "At any instant after the old clock that a step reaches", to before its
+ * last octet: each octet shown there is the one at the old clock, if it lasts,
+ * or a reported one. */
 static bool step_overran(const struct port *p, const struct report *r, uint64_t reached)
 {
     const struct port_frame *f = &p->frame;
     const uint64_t next = p->clock + 1;
-    if (reached < next || f->end <= next)
+#ifdef WRONG_OVERRUN_STEP
+    const uint64_t until = f->end;
+#else
+    const uint64_t until = f->last;
+#endif
+    if (reached < next || until <= next)
         return false;
     if ((r->written == 0 || r->instants[0] > next) && !is_open(r->first, f->class))
         return true;
-    for (size_t i = 0; i < r->written && r->instants[i] < f->end; i++)
+    for (size_t i = 0; i < r->written && r->instants[i] < until; i++)
         if (!is_open(r->octets[i], f->class))
             return true;
     return false;
@@ -608,7 +626,11 @@ unsigned port_step(struct port *p, uint64_t goal, uint64_t *instants, size_t ins
     if (p->frame.present) {
         if (wants_count(p) && step_overran(p, &r, reached))
             count_overrun(p);
+#ifdef WRONG_FORGOT
+        if (reached >= p->frame.last)
+#else
         if (reached >= p->frame.end)
+#endif
             p->frame = (struct port_frame){0};
     }
     if (p->waiting_present && reached >= p->waiting.configuration.start) {
@@ -623,6 +645,41 @@ unsigned port_step(struct port *p, uint64_t goal, uint64_t *instants, size_t ins
 }
 
 /* ---- Choosing a frame ---------------------------------------------------- */
+
+/* "12 octet times later": from a frame's last octet to the next start. */
+#define GAP 12
+
+/* The time of an octet in ns, 8,000 / speed; 0 for a speed that is not offered. */
+static inline uint64_t octet_time_at(uint64_t speed)
+{
+    return speed == 1000 ? 8 : speed == 100 ? 80 : speed == 10 ? 800 : 0;
+}
+
+static inline uint64_t gap_of(uint64_t octet_time)
+{
+#ifdef WRONG_GAP_1000
+    return octet_time == 8 ? GAP * octet_time : 0;
+#else
+    return GAP * octet_time;
+#endif
+}
+
+unsigned port_duration(uint64_t length, uint64_t speed, uint64_t *last, uint64_t *next)
+{
+    const uint64_t octet_time = octet_time_at(speed);
+    *last = *next = 0;
+#ifdef WRONG_DURATION_ORDER
+    if (length - 64 > 2000 - 64)
+        return PORT_HEAD;
+#endif
+    if (octet_time == 0)
+        return PORT_SPEED;
+    if (length - 64 > 2000 - 64)
+        return PORT_HEAD;
+    *last = (length + 8) * octet_time;
+    *next = *last + gap_of(octet_time);
+    return PORT_OK;
+}
 
 /* What a look ahead has found so far. Times here count from now. */
 struct ahead {
@@ -639,7 +696,9 @@ struct ahead {
 static inline uint64_t duration(const struct ahead *a, unsigned class)
 {
     const uint64_t d = (a->heads[class] + 8) * a->octet_time;
-#ifdef WRONG_STOP_AT_LAST
+#ifdef WRONG_FIT_GAP
+    return d + gap_of(a->octet_time);
+#elif defined WRONG_STOP_AT_LAST
     return earlier(d, a->longest);
 #elif defined WRONG_CLOSING_AT_END
     return d + 1;
@@ -821,14 +880,8 @@ unsigned port_transmit(struct port *p, const uint64_t heads[8], uint64_t speed)
 {
     if (port_check(p))
         return PORT_RECORD;
-    uint64_t octet_time;
-    if (speed == 1000)
-        octet_time = 8;
-    else if (speed == 100)
-        octet_time = 80;
-    else if (speed == 10)
-        octet_time = 800;
-    else
+    const uint64_t octet_time = octet_time_at(speed);
+    if (octet_time == 0)
         return PORT_SPEED;
     if (p->frame.present)
         return PORT_SENDING;
@@ -848,14 +901,16 @@ unsigned port_transmit(struct port *p, const uint64_t heads[8], uint64_t speed)
         p->frame.class = (uint8_t)class;
         p->frame.counted = 0;
         p->frame.start = p->clock;
-        p->frame.end = p->clock + (heads[class] + 8) * octet_time;
+        p->frame.last = p->clock + (heads[class] + 8) * octet_time;
+        p->frame.end = p->frame.last + gap_of(octet_time);
     }
 #ifdef WRONG_CLASS_7
     else {
         p->frame.present = 1;
         p->frame.class = 7;
         p->frame.start = p->clock;
-        p->frame.end = p->clock + (heads[7] + 8) * octet_time;
+        p->frame.last = p->clock + (heads[7] + 8) * octet_time;
+        p->frame.end = p->frame.last + gap_of(octet_time);
     }
 #endif
     /* No overrun can follow: a frame chosen here has its gate open now. */

@@ -1,4 +1,5 @@
-/* One port of a scheduled switch: the record and its calls, from document 01.
+/* One port of a scheduled switch: the record and its calls, from documents 01
+ * and 02.
  *
  * Every call that can decline returns 0 or the refusal's number of document
  * 01 ("Numbers returned when a call declines"). A refused call leaves the
@@ -13,7 +14,7 @@
 #define PORT_LAST_INSTANT UINT64_C(9000000000000000000)
 #define PORT_LONGEST_CYCLE UINT64_C(1000000000)
 #define PORT_LONGEST_STEP UINT64_C(1000000000)
-#define PORT_LONGEST_FRAME UINT64_C(1606400)           /* 2,000 octets at 10 Mbit/s */
+#define PORT_LONGEST_FRAME UINT64_C(1616000)           /* 2,000 octets at 10 Mbit/s, and the gap */
 
 enum port_refusal {
     PORT_OK = 0,
@@ -65,7 +66,8 @@ struct port_frame {
     uint8_t class;
     uint8_t counted; /* its overrun has been counted: once per frame */
     uint64_t start;
-    uint64_t end;
+    uint64_t last; /* of its last octet: start + d1 */
+    uint64_t end;  /* of the gap behind it, where the next may start: start + d2 */
 };
 
 struct port {
@@ -98,6 +100,10 @@ unsigned port_look(const struct port *p, uint64_t t, uint8_t *octet);
  * must not overlap each other or the port. */
 unsigned port_step(struct port *p, uint64_t goal, uint64_t *instants, size_t instants_length,
                    uint8_t *octets, size_t octets_length, size_t *written);
+
+/* *last: the time to the last octet of a frame, d1; *next: to the earliest
+ * start of another, d2. Both are 0 if refused. */
+unsigned port_duration(uint64_t length, uint64_t speed, uint64_t *last, uint64_t *next);
 
 /* heads[k] is the length of class k's first frame, 0 for an empty queue. A
  * chosen frame stands in p->frame; if none is, p->frame.present stays 0. */

@@ -1,5 +1,5 @@
 /* The same calls as port.c in the plainest way: every instant is looked at
- * one by one, and each sentence of document 01 is asked as it stands. It is a
+ * one by one, and each sentence of the documents is asked as it stands. It is a
  * check on port.c and shares no code with it. Sums are taken in 128 bits so
  * that none can wrap. */
 #include <stdbool.h>
@@ -127,12 +127,18 @@ unsigned port_check(const struct port *p)
             return 14;
         if (p->frame.end <= p->clock)
             return 14;
-        if (p->frame.end - p->frame.start > 1606400)
+        if (p->frame.last <= p->frame.start)
+            return 14;
+        if (p->frame.last >= p->frame.end)
+            return 14;
+        if (p->frame.end - p->frame.start > 1616000)
             return 14;
     } else {
         if (p->frame.class != 0)
             return 14;
         if (p->frame.start != 0)
+            return 14;
+        if (p->frame.last != 0)
             return 14;
         if (p->frame.end != 0)
             return 14;
@@ -235,7 +241,7 @@ static void test_overrun(struct port *p, uint64_t t, uint8_t octet)
 {
     if (!p->frame.present || p->frame.counted)
         return;
-    if (t < p->frame.start || t >= p->frame.end)
+    if (t < p->frame.start || t >= p->frame.last)
         return;
     if (octet & (1 << p->frame.class))
         return;
@@ -410,6 +416,21 @@ static bool stays_open(const struct port *p, uint64_t bend, unsigned class, uint
     return true;
 }
 
+/* "The time to the last octet and to the earliest next start, 12 octet times
+ * later." */
+unsigned port_duration(uint64_t length, uint64_t speed, uint64_t *last, uint64_t *next)
+{
+    *last = 0;
+    *next = 0;
+    if (!(speed == 10 || speed == 100 || speed == 1000))
+        return 13;
+    if (length < 64 || length > 2000)
+        return 12;
+    *last = (length + 8) * 8000 / speed;
+    *next = (length + 8 + 12) * 8000 / speed;
+    return 0;
+}
+
 unsigned port_transmit(struct port *p, const uint64_t heads[8], uint64_t speed)
 {
     if (port_check(p) != 0)
@@ -427,13 +448,15 @@ unsigned port_transmit(struct port *p, const uint64_t heads[8], uint64_t speed)
         const unsigned class = 7 - i;
         if (heads[class] == 0)
             continue;
-        const uint64_t d = (heads[class] + 8) * 8000 / speed;
-        if (!stays_open(p, bend, class, d))
+        uint64_t last, next;
+        port_duration(heads[class], speed, &last, &next);
+        if (!stays_open(p, bend, class, last))
             continue;
         p->frame.present = 1;
         p->frame.class = (uint8_t)class;
         p->frame.start = p->clock;
-        p->frame.end = p->clock + d;
+        p->frame.last = p->clock + last;
+        p->frame.end = p->clock + next;
         p->frame.counted = 0;
         break;
     }

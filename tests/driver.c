@@ -45,8 +45,9 @@ static const size_t gaps[][2] = {
     {offsetof(struct kurfandaz_port, gates.times.waits) + 1, offsetof(struct kurfandaz_port, gates.times.len)},
 };
 
-/* The call, and what it must answer. A frame that was chosen is in the port, and every octet that is not of its fields is as it was; else every octet is. */
-static void call(const char *what, struct kurfandaz_port *p, const uint64_t *heads, uint64_t speed, int number, int chosen, int class_, uint64_t end) {
+/* The call, and what it must answer: `last` is the instant of the last octet. A frame that was chosen is in the port, and every octet that is not of its fields is as it was; else every octet is. */
+static void call(const char *what, struct kurfandaz_port *p, const uint64_t *heads, uint64_t speed, int number, int chosen, int class_, uint64_t last) {
+    const uint64_t end = chosen ? last + 96000 / speed : 0; /* 12 octet times later */
     struct kurfandaz_port before;
     for (size_t k = 0; k < sizeof gaps / sizeof *gaps; k++) memset((char *)p + gaps[k][0], 0xA5, gaps[k][1] - gaps[k][0]);
     memcpy(&before, p, sizeof before);
@@ -55,11 +56,13 @@ static void call(const char *what, struct kurfandaz_port *p, const uint64_t *hea
     is(what, a.chosen, chosen);
     is(what, a.class_, class_);
     is(what, a.start, chosen ? before.gates.times.clock : 0);
+    is(what, a.last, last);
     is(what, a.end, end);
     if (chosen) {
         is(what, p->frame.present, 1);
         is(what, p->frame.class_, class_);
         is(what, p->frame.start, before.gates.times.clock);
+        is(what, p->frame.last, last);
         is(what, p->frame.end, end);
         is(what, p->frame.counted, 0);
         is(what, memcmp((char *)p + gaps[0][0], (char *)&before + gaps[0][0], gaps[0][1] - gaps[0][0]) != 0, 0);
@@ -118,7 +121,8 @@ int main(void) {
     p.gates.octets[0] = 0xFF;
     p.gates.times.cycle = 1;
     all[7] = 2000;
-    call("2,000 octets at 10 Mbit/s over a cycle of 1 ns", &p, all, 10, 0, 1, 7, UINT64_C(8999999999999999999) + KURFANDAZ_LONGEST_SPAN);
+    call("2,000 octets at 10 Mbit/s over a cycle of 1 ns", &p, all, 10, 0, 1, 7, UINT64_C(8999999999999999999) + 1606400);
+    is("the longest span of a frame", p.frame.end - p.frame.start, KURFANDAZ_LONGEST_SPAN);
 
     /* refusals, in their order */
     p = with_list(5424);

@@ -101,6 +101,7 @@ pub fn transmits(p: Port, head: u64, speed: u64, times: u64) -> u64 {
         q = t.port;
         let f = q.frame;
         sum = wrapping_add_u64(sum, text::wide(f.class));
+        sum = wrapping_add_u64(sum, f.last);
         sum = wrapping_add_u64(sum, f.end);
         q.frame = none;
         i = i + 1;

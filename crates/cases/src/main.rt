@@ -1,5 +1,6 @@
-// Worked runs: document 01's bench cases that are run and not proved, transmits in view of a change that waits, and a sheet for each refusal that a sheet can meet. What is written is compared with
-// crates/cases/stdout.
+// Worked runs: document 01's bench cases that are run and not proved, transmits in view of a change that waits, the gap between frames, and a sheet for each
+// refusal that a sheet can meet. What is written is compared with crates/cases/stdout.
+mod gap;
 mod sheets;
 mod waiting;
 mod worked;
@@ -8,5 +9,6 @@ fn main() {
     worked::case_11();
     worked::case_12();
     waiting::request_2();
+    gap::request_5();
     sheets::sheets();
 }

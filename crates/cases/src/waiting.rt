@@ -48,22 +48,22 @@ fn changes_to(octet: u8, extension: u32, change: u64) -> Port {
     with_list(r, steady(octet), 0, change)
 }
 
-// When the frame of a transmit ends; 0 if none is chosen.
-fn end_of(c: Choice) -> u64 {
+// When the last octet of a transmit's frame is out; 0 if none is chosen.
+fn last_of(c: Choice) -> u64 {
     match c {
-        Choice::Frame(_, _, end) => end,
+        Choice::Frame(_, _, last, _) => last,
         Choice::Nothing => 0,
         Choice::Refused(r) => rule::number(r) as u64,
     }
 }
 
-// Writes an instant, and when the frame ends that is chosen then.
-fn say_end(t: u64, end: u64) {
+// Writes an instant, and when the last octet is out of the frame that is chosen then.
+fn say_last(t: u64, last: u64) {
     let mut out = [0u8; 96];
     let at = text::put(&mut out, 0, b"at");
     let at = text::spaced(&mut out, at, t);
-    let at = text::put(&mut out, at, b": end");
-    let at = text::spaced(&mut out, at, end);
+    let at = text::put(&mut out, at, b": last octet");
+    let at = text::spaced(&mut out, at, last);
     let at = text::put(&mut out, at, b"\n");
     text::show(&out, at);
 }
@@ -73,15 +73,15 @@ fn say(p: Port, t: u64) {
     let q = moved(p, t);
     let sent = q.transmit([64, 0, 0, 0, 0, 0, 0, 0], 1000);
     let c = sent.answer;
-    let end = end_of(c);
-    say_end(q.gates.times.clock, end);
+    let last = last_of(c);
+    say_last(q.gates.times.clock, last);
 }
 
 // Document 01 let the frame pass until 6,424, and refused it inside the longer cycle from 7,425 on and before the change to 01 from 5,425 on.
 fn one_operates() {
     io::write_all(
         1,
-        b"# request 2, the frame's end, 0 if none is chosen: a change at 6900 closes the gate\n",
+        b"# request 2, the frame's last octet, 0 if none is chosen: a change at 6900 closes the gate\n",
     );
     say(changes_to(0x80, 0, 6900), 6324);
     say(changes_to(0x80, 0, 6900), 6325);

@@ -30,10 +30,10 @@ fn port_a() -> Port {
     done.port
 }
 
-// How long a transmit's frame takes, in ns; 0 if there is none.
+// How long a transmit's frame takes to its last octet, in ns; 0 if there is none.
 fn time_of(c: Choice) -> u64 {
     match c {
-        Choice::Frame(_, start, end) => std::num::wrapping_sub_u64(end, start),
+        Choice::Frame(_, start, last, _) => std::num::wrapping_sub_u64(last, start),
         Choice::Nothing => 0,
         Choice::Refused(r) => 1000 + rule::number(r) as u64,
     }

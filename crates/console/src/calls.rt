@@ -16,6 +16,7 @@ use crate::lists::take_list;
 use crate::record::call_load;
 use crate::record::call_show;
 use frames::Choice;
+use frames::FrameTime;
 use port::Looked;
 use port::Port;
 use port::StepAnswer;
@@ -84,10 +85,11 @@ fn call_submit(s: &[u8], c: Scan, p: Port, out: &mut [u8]) -> Held {
 
 fn say_choice(out: &mut [u8], a: Choice) -> usize {
     match a {
-        Choice::Frame(class, start, end) => {
+        Choice::Frame(class, start, last, end) => {
             let at = text::put(out, 0, b"frame");
             let at = text::spaced(out, at, text::wide(class));
             let at = text::spaced(out, at, start);
+            let at = text::spaced(out, at, last);
             text::spaced(out, at, end)
         }
         Choice::Nothing => text::put(out, 0, b"none"),
@@ -198,6 +200,28 @@ fn call_look(s: &[u8], c: Scan, p: Port, out: &mut [u8]) -> Held {
     }
 }
 
+fn say_duration(out: &mut [u8], d: FrameTime) -> usize {
+    match d {
+        FrameTime::Takes(last, next) => {
+            let at = text::put(out, 0, b"duration");
+            let at = text::spaced(out, at, last);
+            text::spaced(out, at, next)
+        }
+        FrameTime::Refused(r) => say_refused(out, r),
+    }
+}
+
+// duration LENGTH SPEED
+fn call_duration(s: &[u8], c: Scan, p: Port, out: &mut [u8]) -> Held {
+    let len = text::number64(s, c);
+    let speed = text::number64(s, len.scan);
+    if !text::at_end(s, speed.scan) {
+        return no_call(p);
+    }
+    let at = say_duration(out, frames::duration(len.value, speed.value));
+    answered(p, at)
+}
+
 // A call's word as a number; 0 is none.
 fn call_no(w: &[u8]) -> u8 {
     if text::same(w, b"new") {
@@ -240,6 +264,9 @@ fn other_call_no(w: &[u8]) -> u8 {
     if text::same(w, b"show") {
         return 12;
     }
+    if text::same(w, b"duration") {
+        return 13;
+    }
     0
 }
 
@@ -260,6 +287,7 @@ pub fn call(s: &[u8], p: Port, out: &mut [u8]) -> Held {
         10 => call_write(s, c, p, out),
         11 => call_load(s, c, p, out),
         12 => call_show(s, c, p, out),
+        13 => call_duration(s, c, p, out),
         _ => no_call(p),
     }
 }

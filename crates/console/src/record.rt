@@ -81,12 +81,13 @@ fn take_waiting(s: &[u8], c: Scan) -> TakenConfig {
     TakenConfig { config, scan }
 }
 
-// FP CLASS START END COUNTED
+// FP CLASS START LAST END COUNTED
 fn take_frame(s: &[u8], c: Scan) -> TakenFrame {
     let present = text::number8(s, c);
     let class = text::number8(s, present.scan);
     let start = text::number64(s, class.scan);
-    let end = text::number64(s, start.scan);
+    let last = text::number64(s, start.scan);
+    let end = text::number64(s, last.scan);
     let counted = text::number8(s, end.scan);
     let scan = counted.scan;
     let frame = Frame {
@@ -94,6 +95,7 @@ fn take_frame(s: &[u8], c: Scan) -> TakenFrame {
         class: class.value,
         counted: counted.value,
         start: start.value,
+        last: last.value,
         end: end.value,
     };
     TakenFrame { frame, scan }
@@ -212,6 +214,7 @@ fn say_frame(out: &mut [u8], at: usize, f: Frame) -> usize {
     let at = say_octet(out, at, f.present);
     let at = say_octet(out, at, f.class);
     let at = text::spaced(out, at, f.start);
+    let at = text::spaced(out, at, f.last);
     let at = text::spaced(out, at, f.end);
     say_octet(out, at, f.counted)
 }

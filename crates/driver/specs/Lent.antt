@@ -20,9 +20,9 @@ use Rattle.driver.specs.declared.Framed.{Framed}
 
 -- an answer in numbers; no two answers have the same
 abbrev pub answerFor : Choice → Answer
-answerFor (Frame class start end) = record { number = 0; chosen = 1; class = class; start = start; end = end }
-answerFor Nothing = record { number = 0; chosen = 0; class = 0; start = 0; end = 0 }
-answerFor (Refused r) = record { number = numberOf r; chosen = 0; class = 0; start = 0; end = 0 }
+answerFor (Frame class start last end) = record { number = 0; chosen = 1; class = class; start = start; last = last; end = end }
+answerFor Nothing = record { number = 0; chosen = 0; class = 0; start = 0; last = 0; end = 0 }
+answerFor (Refused r) = record { number = numberOf r; chosen = 0; class = 0; start = 0; last = 0; end = 0 }
 
 -- what a transmit on the port answers
 abbrev pub answerTo : List ℕ → ℕ → Port → Answer

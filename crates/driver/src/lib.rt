@@ -8,14 +8,15 @@ use frames::decide;
 use port::Port;
 use timetable::Times;
 
-// What a lent transmit answers, in numbers: that of the refusal, or 0; and whether a frame was chosen (1) or not (0), with its class, start and end. What
-// does not apply is 0.
+// What a lent transmit answers, in numbers: that of the refusal, or 0; and whether a frame was chosen (1) or not (0), with its class, start, last octet
+// and earliest next start. What does not apply is 0.
 #[repr(C)]
 pub struct Answer {
     pub number: u8,
     pub chosen: u8,
     pub class: u8,
     pub start: u64,
+    pub last: u64,
     pub end: u64,
 }
 
@@ -29,11 +30,12 @@ fn numbered(choice: Choice) -> Answer
     ensures { λ r. ⌜ r ≡ answerFor choice ⌝ }
 {
     match choice {
-        Choice::Frame(class, start, end) => Answer {
+        Choice::Frame(class, start, last, end) => Answer {
             number: 0,
             chosen: 1,
             class,
             start,
+            last,
             end,
         },
         Choice::Nothing => Answer {
@@ -41,6 +43,7 @@ fn numbered(choice: Choice) -> Answer
             chosen: 0,
             class: 0,
             start: 0,
+            last: 0,
             end: 0,
         },
         Choice::Refused(reason) => Answer {
@@ -48,6 +51,7 @@ fn numbered(choice: Choice) -> Answer
             chosen: 0,
             class: 0,
             start: 0,
+            last: 0,
             end: 0,
         },
     }
@@ -93,6 +97,7 @@ pub extern "C" fn kurfandaz_transmit(p: &mut Port, heads: &[u64; 8], speed: u64)
     p.frame.class = c.frame.class;
     p.frame.counted = c.frame.counted;
     p.frame.start = c.frame.start;
+    p.frame.last = c.frame.last;
     p.frame.end = c.frame.end;
     c.answer
 }

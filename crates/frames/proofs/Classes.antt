@@ -1,4 +1,4 @@
--- The choice of a frame by its parts. In order: durations; what is asked for; the highest class and its frame; gates that stay open; the classes that qualify.
+-- The choice of a frame by its parts. In order: what is asked for; the highest class and its frame; gates that stay open; the classes that qualify.
 -- Assumes nothing.
 use mathlib.Core.Path.{_≡_, refl, ap, ap₂, sym, _∙_}
 use mathlib.Core.Bool.{Bool, true, false, cond, _&&_, _||_, true≢false}
@@ -14,24 +14,18 @@ use lib.ListN.{length, getD, set}
 use lib.Pow.{pow-pos, pow-mono}
 use lib.Seq.{getD-set-same, getD-set-other}
 use borrow.Author.Tests.{leb-true, leb-false, eqb-true, eqb-false}
-use Rattle.rule.specs.Limits.{longestSpan}
+use Rattle.rule.specs.Limits.{largestInstant, longestSpan}
 use Rattle.rule.specs.Gates.{isOpen}
-use Rattle.rule.specs.Choice.{duration, staysOpen, qualifies, highest, frameFor, chosen}
-use Rattle.rule.specs.Orders.{speedOffered}
-use Rattle.rule.proofs.Sound.{duration-short}
-use Rattle.rule.proofs.Choice.{open-still, open-each, highest-same, by-speed, speed-range}
+use Rattle.rule.specs.Choice.{duration, nextStart, staysOpen, qualifies, highest, frameFor, chosen}
+use Rattle.rule.proofs.Sound.{duration-short, next-short}
+use Rattle.rule.proofs.Choice.{open-still, open-each, highest-same, speed-range}
 use Rattle.frames.specs.declared.ahead.Gates.{Gates}
 use Rattle.frames.specs.declared.Frame as declared
 use Rattle.frames.specs.Ahead.{Known, Tells}
 use Rattle.frames.specs.Frame.{encodeFrame, noFrame}
-use Rattle.frames.specs.Choosing.{Sets, headed, Asks, Offered, Begins}
+use Rattle.frames.specs.Choosing.{Sets, headed, Asks, Offered, Near, Begins}
+use Rattle.frames.proofs.Lasting.{duration-times}
 use Rattle.frames.proofs.Octets.{gate-and, gate-or, gate-none, forms-none, forms-more, forms-at}
-
--- durations
-
-pub duration-times : (n v : ℕ) → speedOffered v ≡ true → (n + 8) * (8_000 / v) ≡ duration n v
-unfolding duration
-duration-times n = by-speed (λ v. (n + 8) * (8_000 / v) ≡ (n + 8) * 8_000 / v) (omega arith) (omega arith) (omega arith)
 
 -- what is asked for
 
@@ -89,6 +83,12 @@ module _ (heads : List ℕ) (speed : ℕ) (o : Offered heads speed) where
           let d = getD-set-other ends n k end 0 c in
           omega (arith, a .upto k (omega arith) q)
 
+  pub gap-near : (t gap : ℕ) → t ≤ largestInstant → (ends : List ℕ) (wanted last : ℕ) → Asks heads speed t 8 wanted last ends → gap ≡ 96_000 / speed → Near ends gap
+  unfolding nextStart
+  gap-near t gap h ends wanted last a p k l =
+      let d = next-short (getD heads k 0) speed (o .short k) (speed-range speed (o .fast) .0) in
+      omega (arith, a .each k l)
+
 -- the highest class
 
 module _ (q : ℕ → Bool) where
@@ -136,16 +136,18 @@ top-is octet p h =
 
 -- its frame
 
-pub begins-none : (octet : ℕ) (ends : List ℕ) (t : ℕ) → octet ≡ 0 → Begins octet ends t noFrame
+pub begins-none : (octet : ℕ) (ends : List ℕ) (gap t : ℕ) → octet ≡ 0 → Begins octet ends gap t noFrame
 unfolding frameFor
-begins-none octet ends t z heads speed f =
+begins-none octet ends gap t z heads speed f p =
     sym (ap (λ o. encodeFrame (frameFor heads speed t o)) (highest-empty (isOpen octet) 8 (λ j h. ap (λ n. isOpen n j) z ∙ gate-none j)))
 
-pub begins-top : (octet : ℕ) (ends : List ℕ) (t k : ℕ) → k < 8 → highest (isOpen octet) 8 ≡ some k
-    → Begins octet ends t (record { present = 1; class = k; counted = 0; start = t; end = getD ends k 0 })
-unfolding frameFor
-begins-top octet ends t k h e heads speed f =
-    ap (λ n. record { present = 1; class = k; counted = 0; start = t; end = n }) (f k h)
+pub begins-top : (octet : ℕ) (ends : List ℕ) (gap t k : ℕ) → k < 8 → highest (isOpen octet) 8 ≡ some k
+    → Begins octet ends gap t (record { present = 1; class = k; counted = 0; start = t; last = getD ends k 0; end = getD ends k 0 + gap })
+unfolding frameFor nextStart
+begins-top octet ends gap t k h e heads speed f p =
+    let d : ℕ = duration (getD heads k 0) speed in
+    let q : getD ends k 0 + gap ≡ t + (d + 96_000 / speed) = omega (arith, f k h, p) in
+    (λ i. record { present = 1; class = k; counted = 0; start = t; last = f k h i; end = q i })
     ∙ sym (ap (λ o. encodeFrame (frameFor heads speed t o)) e)
 
 -- gates that stay open
@@ -205,7 +207,7 @@ module _ (heads : List ℕ) (speed t : ℕ) (h : ℕ → ℕ) (wanted last : ℕ
           none false = refl
 
   -- the frame of the highest of them is the one that is chosen
-  pub chosen-by : (r : declared.Frame) → Begins fits ends t r → r ≡ encodeFrame (chosen heads speed t h)
+  pub chosen-by : (gap : ℕ) → gap ≡ 96_000 / speed → (r : declared.Frame) → Begins fits ends gap t r → r ≡ encodeFrame (chosen heads speed t h)
   unfolding chosen
-  chosen-by r b =
-      b heads speed (a .each) ∙ ap (λ o. encodeFrame (frameFor heads speed t o)) (highest-same (isOpen fits) (qualifies heads speed t h) 8 fits-is)
+  chosen-by gap p r b =
+      b heads speed (a .each) p ∙ ap (λ o. encodeFrame (frameFor heads speed t o)) (highest-same (isOpen fits) (qualifies heads speed t h) 8 fits-is)

@@ -14,9 +14,8 @@ use Rattle.rule.specs.declared.Answer.{Answer}
 use Rattle.rule.specs.declared.Answer.the-variants as answer
 use Rattle.rule.specs.declared.Refusal.{Refusal}
 use Rattle.rule.specs.declared.Refusal.the-variants.{MalformedPort, Speed, FrameSending, HeadLength}
-use Rattle.rule.specs.Refusals.{firstOf, accepted}
-use Rattle.rule.specs.Answers.{firstAnswer, answerOf}
-use Rattle.rule.specs.Orders.{any, speedOffered, headOffered, transmitOrder}
+use Rattle.rule.specs.Refusals.{firstOf, firstAnswer, answerOf, accepted}
+use Rattle.rule.specs.Orders.{any, speedOffered, frameOffered, headOffered, transmitOrder}
 use Rattle.rule.proofs.Orders.{both, order-passed}
 use Rattle.rule.proofs.Sound.{heads-short}
 use Rattle.timetable.specs.declared.Timetable.{Timetable}
@@ -44,11 +43,11 @@ speed-test v = go (eqb v 10) (eqb v 100) (eqb v 1_000)
     go false false true = refl
     go false false false = refl
 
-pub head-test : (n : ℕ) → eqb n 0 || (leb 64 n && leb n 2_000) ≡ headOffered n
+pub head-test : (n : ℕ) (b : Bool) → b ≡ frameOffered n → eqb n 0 || b ≡ headOffered n
 unfolding headOffered
-head-test n = go (eqb n 0)
+head-test n b e = go (eqb n 0) ∙ ap (λ x. cond (eqb n 0) true x) e
   where
-    go : (a : Bool) → a || (leb 64 n && leb n 2_000) ≡ cond a true (leb 64 n && leb n 2_000)
+    go : (a : Bool) → a || b ≡ cond a true b
     go true = refl
     go false = refl
 

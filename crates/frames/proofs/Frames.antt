@@ -21,7 +21,7 @@ use Rattle.frames.specs.Frame.{sentFrame, decodeFrame, encodeFrame, fram
 pub frame-decoded : (o : Option model.Frame) → decodeFrame (encodeFrame o) ≡ o
 unfolding decodeFrame
 frame-decoded none = refl
-frame-decoded (some f) = λ i. some (record { class = f .class; start = f .start; end = f .end; counted = marked-back (f .counted) i })
+frame-decoded (some f) = λ i. some (record { class = f .class; start = f .start; last = f .last; end = f .end; counted = marked-back (f .counted) i })
 
 -- a mark that is not set is 0
 unmarked : (n : ℕ) → markOk n ≡ true → isMarked n ≡ false → n ≡ 0
@@ -34,24 +34,30 @@ frame-part f t n m true q e =
     let z = one-of (frameOk f t) e in
     let a = both (leb (f .class) 7) _ z in
     let b = both (leb (f .start) t) _ (a .1) in
-    let c = both (ltb t (f .end)) _ (b .1) in (
-      (λ i. record { present = sym (eqb-true (f .present) 1 q) i; class = f .class; counted = mark-kept (f .counted) m i; start = f .start; end = f .end }),
+    let c = both (ltb t (f .end)) _ (b .1) in
+    let d = both (ltb (f .start) (f .last)) _ (c .1) in
+    let g = both (ltb (f .last) (f .end)) _ (d .1) in (
+      (λ i. record { present = sym (eqb-true (f .present) 1 q) i; class = f .class; counted = mark-kept (f .counted) m i; start = f .start; last = f .last; end = f .end }),
       record {
         class = leb-true (f .class) 7 (a .0);
         begun = leb-true (f .start) t (b .0);
         before = ltb-true t (f .end) (c .0);
-        short = leb-true (f .end - f .start) longestSpan (c .1);
+        some-octet = ltb-true (f .start) (f .last) (d .0);
+        some-gap = ltb-true (f .last) (f .end) (g .0);
+        short = leb-true (f .end - f .start) longestSpan (g .1);
       },
     )
 frame-part f t n m false q e =
-    let a = both (eqb (f .class) 0) (eqb (f .start) 0 && (eqb (f .end) 0 && eqb (f .counted) 0)) e in
+    let a = both (eqb (f .class) 0) _ e in
     let b = both (eqb (f .start) 0) _ (a .1) in
-    let c = both (eqb (f .end) 0) (eqb (f .counted) 0) (b .1) in (
+    let d = both (eqb (f .last) 0) _ (b .1) in
+    let c = both (eqb (f .end) 0) (eqb (f .counted) 0) (d .1) in (
       (λ i. record {
         present = sym (unmarked (f .present) n q) i;
         class = sym (eqb-true (f .class) 0 (a .0)) i;
         counted = sym (eqb-true (f .counted) 0 (c .1)) i;
         start = sym (eqb-true (f .start) 0 (b .0)) i;
+        last = sym (eqb-true (f .last) 0 (d .0)) i;
         end = sym (eqb-true (f .end) 0 (c .0)) i;
       }),
       tt,
@@ -70,4 +76,4 @@ unfolding frameFormed frameOk frameNone
 frame-formed t none k = refl
 frame-formed t (some f) k =
     rw (mark-formed (f .counted))
-    (simp (le-leb (f .class) 7 (k .class), le-leb (f .start) t (k .begun), lt-ltb t (f .end) (k .before), le-leb (f .end - f .start) longestSpan (k .short)))
+    (simp (le-leb (f .class) 7 (k .class), le-leb (f .start) t (k .begun), lt-ltb t (f .end) (k .before), lt-ltb (f .start) (f .last) (k .some-octet), lt-ltb (f .last) (f .end) (k .some-gap), le-leb (f .end - f .start) longestSpan (k .short)))

@@ -1,4 +1,5 @@
 pub mod Octets
+pub mod Lasting
 pub mod Classes
 pub mod Closing
 pub mod Frames

@@ -1,5 +1,5 @@
--- `decide` promises `Decides`, which leaves one outcome; `frame_formed` and `no_frame` promise an equation. Document 01's number, with the values of an
--- accepted call, tells an answer from every other (`choice-told`).
+-- `decide` promises `Decides` and `duration` promises `Lasts`, which leave one outcome; `frame_formed` and `no_frame` promise an equation. Document 01's number,
+-- with the values of an accepted call, tells an answer from every other (`choice-told`, `duration-told`).
 -- Assumes nothing.
 use mathlib.Core.Path.{_≡_, refl, ap, sym, _∙_}
 use mathlib.Core.List.{List, [], _∷_}
@@ -14,7 +14,10 @@ use Rattle.frames.specs.declared.Frame.{Frame}
 use Rattle.frames.specs.declared.Choice.{Choice}
 use Rattle.frames.specs.declared.Choice.the-variants as choice
 use Rattle.frames.specs.declared.Decided.{Decided}
+use Rattle.frames.specs.declared.FrameTime.{FrameTime}
+use Rattle.frames.specs.declared.FrameTime.the-variants as time
 use Rattle.frames.specs.Decision.{choiceNumber, choiceValues, Decides}
+use Rattle.frames.specs.Lengths.{Lasts, durationNumber, durationValues}
 
 pub decides-unique : (heads : List ℕ) (speed : ℕ) (g : Timetable) (f : Frame) (r s : Decided) → Decides heads speed g f r → Decides heads speed g f s → r ≡ s
 decides-unique heads speed g f r s k l i = record { answer = (k .answer ∙ sym (l .answer)) i; frame = (k .frame ∙ sym (l .frame)) i }
@@ -25,20 +28,33 @@ refusal-told r s e = number-same r s (cc)
 none-some : (n : ℕ) → none ≡ some n → ⊥
 none-some n e = let z : _≡_ {A = ℕ} 0 1 = cc in omega arith
 
-no-frame : (a b c : ℕ) (l : List ℕ) → _≡_ {A = List ℕ} (0 ∷ l) (1 ∷ a ∷ b ∷ c ∷ []) → ⊥
-no-frame a b c l e = let z : _≡_ {A = ℕ} 0 1 = cc in omega arith
+no-frame : (l m : List ℕ) → _≡_ {A = List ℕ} (0 ∷ l) (1 ∷ m) → ⊥
+no-frame l m e = let z : _≡_ {A = ℕ} 0 1 = cc in omega arith
 
 pub choice-told : (r s : Choice) → choiceNumber r ≡ choiceNumber s → choiceValues r ≡ choiceValues s → r ≡ s
-choice-told (choice.Frame k a b) (choice.Frame j c d) e f =
+choice-told (choice.Frame k a b c) (choice.Frame j d e f) p q =
     let x : k ≡ j = cc in
-    let y : a ≡ c = cc in
-    let z : b ≡ d = cc in
-    λ i. choice.Frame (x i) (y i) (z i)
-choice-told (choice.Frame k a b) choice.Nothing e f = absurd (no-frame k a b (0 ∷ 0 ∷ 0 ∷ []) (sym f))
-choice-told (choice.Frame k a b) (choice.Refused q) e f = absurd (none-some (numberOf q) e)
-choice-told choice.Nothing (choice.Frame j c d) e f = absurd (no-frame j c d (0 ∷ 0 ∷ 0 ∷ []) f)
-choice-told choice.Nothing choice.Nothing e f = refl
-choice-told choice.Nothing (choice.Refused q) e f = absurd (none-some (numberOf q) e)
-choice-told (choice.Refused q) (choice.Frame j c d) e f = absurd (none-some (numberOf q) (sym e))
-choice-told (choice.Refused q) choice.Nothing e f = absurd (none-some (numberOf q) (sym e))
-choice-told (choice.Refused q) (choice.Refused p) e f = ap choice.Refused (refusal-told q p e)
+    let y : a ≡ d = cc in
+    let z : b ≡ e = cc in
+    let w : c ≡ f = cc in
+    λ i. choice.Frame (x i) (y i) (z i) (w i)
+choice-told (choice.Frame k a b c) choice.Nothing p q = absurd (no-frame _ _ (sym q))
+choice-told (choice.Frame k a b c) (choice.Refused r) p q = absurd (none-some (numberOf r) p)
+choice-told choice.Nothing (choice.Frame j d e f) p q = absurd (no-frame _ _ q)
+choice-told choice.Nothing choice.Nothing p q = refl
+choice-told choice.Nothing (choice.Refused r) p q = absurd (none-some (numberOf r) p)
+choice-told (choice.Refused r) (choice.Frame j d e f) p q = absurd (none-some (numberOf r) (sym p))
+choice-told (choice.Refused r) choice.Nothing p q = absurd (none-some (numberOf r) (sym p))
+choice-told (choice.Refused r) (choice.Refused s) p q = ap choice.Refused (refusal-told r s p)
+
+pub lasts-unique : (len speed : ℕ) (r s : FrameTime) → Lasts len speed r → Lasts len speed s → r ≡ s
+lasts-unique len speed r s p q = p ∙ sym q
+
+pub duration-told : (r s : FrameTime) → durationNumber r ≡ durationNumber s → durationValues r ≡ durationValues s → r ≡ s
+duration-told (time.Takes a b) (time.Takes c d) p q =
+    let x : a ≡ c = cc in
+    let y : b ≡ d = cc in
+    λ i. time.Takes (x i) (y i)
+duration-told (time.Takes a b) (time.Refused r) p q = absurd (none-some (numberOf r) p)
+duration-told (time.Refused r) (time.Takes a b) p q = absurd (none-some (numberOf r) (sym p))
+duration-told (time.Refused r) (time.Refused s) p q = ap time.Refused (refusal-told r s p)

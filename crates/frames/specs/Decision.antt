@@ -22,22 +22,22 @@ use Rattle.frames.specs.declared.Decided.{Decided}
 use Rattle.frames.specs.Frame.{decodeFrame, encodeFrame, frameFormed, FineFrame}
 use Rattle.frames.specs.Choosing.{begun}
 
--- what a transmit answers: a frame's class, start and end, or nothing, or refused
+-- what a transmit answers: a frame's class, start, last octet and end, or nothing, or refused
 abbrev pub choiceOf : Option Refusal → Option model.Frame → Choice
 choiceOf none none = choice.Nothing
-choiceOf none (some f) = choice.Frame (f .class) (f .start) (f .end)
+choiceOf none (some f) = choice.Frame (f .class) (f .start) (f .last) (f .end)
 choiceOf (some r) f = choice.Refused r
 
--- document 01's number of an answer, none for an accepted call; and its values: 1 with class, start and end, or zeros
+-- document 01's number of an answer, none for an accepted call; and its values: 1 with class, start, last and end, or zeros
 abbrev pub choiceNumber : Choice → Option ℕ
-choiceNumber (choice.Frame class start end) = none
+choiceNumber (choice.Frame class start last end) = none
 choiceNumber choice.Nothing = none
 choiceNumber (choice.Refused r) = some (numberOf r)
 
 abbrev pub choiceValues : Choice → List ℕ
-choiceValues (choice.Frame class start end) = 1 ∷ class ∷ start ∷ end ∷ []
-choiceValues choice.Nothing = 0 ∷ 0 ∷ 0 ∷ 0 ∷ []
-choiceValues (choice.Refused r) = 0 ∷ 0 ∷ 0 ∷ 0 ∷ []
+choiceValues (choice.Frame class start last end) = 1 ∷ class ∷ start ∷ last ∷ end ∷ []
+choiceValues choice.Nothing = 0 ∷ 0 ∷ 0 ∷ 0 ∷ 0 ∷ []
+choiceValues (choice.Refused r) = 0 ∷ 0 ∷ 0 ∷ 0 ∷ 0 ∷ []
 
 -- what it declines with
 unfoldable pub sendDeclines : List ℕ → ℕ → Timetable → Frame → Option Refusal

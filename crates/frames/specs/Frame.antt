@@ -16,27 +16,28 @@ use Rattle.frames.specs.declared.Frame.{Frame}
 -- from the record and to it
 
 abbrev pub sentFrame : Frame → model.Frame
-sentFrame f = record { class = f .class; start = f .start; end = f .end; counted = isMarked (f .counted) }
+sentFrame f = record { class = f .class; start = f .start; last = f .last; end = f .end; counted = isMarked (f .counted) }
 
 unfoldable pub decodeFrame : Frame → Option model.Frame
 decodeFrame f = present (isMarked (f .present)) (sentFrame f)
 
 abbrev pub noFrame : Frame
-noFrame = record { present = 0; class = 0; counted = 0; start = 0; end = 0 }
+noFrame = record { present = 0; class = 0; counted = 0; start = 0; last = 0; end = 0 }
 
 abbrev pub encodeFrame : Option model.Frame → Frame
 encodeFrame none = noFrame
-encodeFrame (some f) = record { present = 1; class = f .class; counted = markOf (f .counted); start = f .start; end = f .end }
+encodeFrame (some f) = record { present = 1; class = f .class; counted = markOf (f .counted); start = f .start; last = f .last; end = f .end }
 
 -- 14
 
--- frame class at most 7, start ≤ t < end, end − start ≤ 1,606,400
+-- frame class at most 7, start ≤ t < end, start < last < end, end − start ≤ 1,616,000
 unfoldable pub frameOk : Frame → ℕ → Bool
-frameOk f t = leb (f .class) 7 && (leb (f .start) t && (ltb t (f .end) && leb (f .end - f .start) longestSpan))
+frameOk f t =
+    leb (f .class) 7 && (leb (f .start) t && (ltb t (f .end) && (ltb (f .start) (f .last) && (ltb (f .last) (f .end) && leb (f .end - f .start) longestSpan))))
 
 -- an absent frame is all zeros
 unfoldable pub frameNone : Frame → Bool
-frameNone f = eqb (f .class) 0 && (eqb (f .start) 0 && (eqb (f .end) 0 && eqb (f .counted) 0))
+frameNone f = eqb (f .class) 0 && (eqb (f .start) 0 && (eqb (f .last) 0 && (eqb (f .end) 0 && eqb (f .counted) 0)))
 
 unfoldable pub frameFormed : Frame → ℕ → Bool
 frameFormed f t = (markOk (f .present) && markOk (f .counted)) && either (isMarked (f .present)) (frameOk f t) (frameNone f)

@@ -2,3 +2,4 @@ pub mod Frame
 pub mod Ahead
 pub mod Choosing
 pub mod Decision
+pub mod Lengths

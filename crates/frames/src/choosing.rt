@@ -2,24 +2,26 @@
 ghost use mathlib.Core.Path.{_≡_};
 ghost use mathlib.Core.Bool.{cond};
 ghost use mathlib.Core.Option.{some};
-ghost use Prim.Native.Nat.{_≤_, _<_};
+ghost use Prim.Native.Nat.{_/_, _≤_, _<_};
 ghost use Rattle.rule.specs.Limits.{largestInstant};
 ghost use Rattle.rule.specs.Gates.{isOpen};
 ghost use Rattle.rule.specs.Choice.{highest};
 ghost use Rattle.timetable.specs.Coding.{decode};
 ghost use Rattle.timetable.specs.Checks.{Fine};
 ghost use Rattle.frames.specs.Frame.{encodeFrame};
-ghost use Rattle.frames.specs.Choosing.{Sets, Asks, Offered, Begins, begun};
+ghost use Rattle.frames.specs.Choosing.{Sets, Asks, Offered, Near, Begins, begun};
 use crate::Frame;
 use crate::ahead::look_ahead;
 use crate::sent::no_frame;
 use timetable::Times;
 use timetable::most;
 
-// What a transmit asks for: the classes that have a frame, when the last of their frames ends, and when the frame of each of the eight classes would end.
+// What a transmit asks for: the classes that have a frame, when the last octet of the last of their frames is out, the time of the gap between frames, and
+// when the last octet would be out of the frame of each of the eight classes.
 struct Ends {
     wanted: u8,
     last: u64,
+    gap: u64,
     each: [u64; 8],
 }
 
@@ -38,11 +40,11 @@ fn pick(which: bool, a: u64, b: u64) -> u64
     if which { a } else { b }
 }
 
-// What is asked for at t. A frame takes 8,000 / speed ns for each octet of it and for 8 more.
+// What is asked for at t. A frame takes 8,000 / speed ns for each octet of it and for 8 more, the gap takes 12 times that.
 fn asked(heads: [u64; 8], speed: u64, t: u64) -> Ends
     requires { ⌜ Offered heads speed ⌝ }
     requires { ⌜ t ≤ largestInstant ⌝ }
-    ensures { λ r. ⌜ Asks heads speed t 8 (r .wanted) (r .last) (r .each) ⌝ }
+    ensures { λ r. ⌜ Asks heads speed t 8 (r .wanted) (r .last) (r .each) × (r .gap ≡ 96_000 / speed) ⌝ }
 {
     let octet_time = 8_000 / speed;
     let mut wanted: u8 = 0;
@@ -58,7 +60,13 @@ fn asked(heads: [u64; 8], speed: u64, t: u64) -> Ends
         let until = pick(there, end, t);
         last = most(last, until);
     }
-    Ends { wanted, last, each }
+    let gap = 12 * octet_time;
+    Ends {
+        wanted,
+        last,
+        gap,
+        each,
+    }
 }
 
 // The highest class of an octet that has one: 7 less its leading zeros.
@@ -70,20 +78,23 @@ fn top(octet: u8) -> u8
 }
 
 // The frame of the highest of an octet's classes, begun at t; none if it has none.
-fn frame_for(octet: u8, ends: [u64; 8], t: u64) -> Frame
-    ensures { λ r. ⌜ Begins octet ends t r ⌝ }
+fn frame_for(octet: u8, ends: [u64; 8], gap: u64, t: u64) -> Frame
+    requires { ⌜ Near ends gap ⌝ }
+    ensures { λ r. ⌜ Begins octet ends gap t r ⌝ }
 {
     if octet == 0 {
         return no_frame();
     }
     let class = top(octet);
     let k = class as usize;
-    let end = ends[k];
+    let last = ends[k];
+    let end = last + gap;
     Frame {
         present: 1,
         class,
         counted: 0,
         start: t,
+        last,
         end,
     }
 }
@@ -106,7 +117,8 @@ pub fn chosen<'a>(
     let a = asked(heads, speed, t);
     let wanted = a.wanted;
     let last = a.last;
+    let gap = a.gap;
     let ends = a.each;
     let g = look_ahead(x, os, vs, ws, zs, wanted, &ends, last);
-    frame_for((g.left | g.ended) & wanted, ends, t)
+    frame_for((g.left | g.ended) & wanted, ends, gap, t)
 }

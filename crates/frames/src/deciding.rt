@@ -2,30 +2,27 @@
 ghost use mathlib.Core.Path.{_≡_};
 ghost use mathlib.Core.Bool.{not};
 ghost use mathlib.Core.Option.{none};
-ghost use Rattle.rule.specs.Orders.{any, speedOffered, headOffered};
+ghost use Rattle.rule.specs.Orders.{any, headOffered};
 ghost use Rattle.frames.specs.Frame.{decodeFrame};
 ghost use Rattle.frames.specs.Decision.{choiceOf, Decides};
 use crate::Choice;
 use crate::Decided;
 use crate::Frame;
 use crate::choosing::chosen;
+use crate::lengths::frame_offered;
+use crate::lengths::speed_offered;
 use crate::sent::frame_formed;
 use rule::Answer;
 use rule::Refusal;
 use rule::first;
 use timetable::Times;
 
-fn speed_offered(speed: u64) -> bool
-    ensures { λ r. ⌜ r ≡ speedOffered speed ⌝ }
-{
-    (speed == 10) | ((speed == 100) | (speed == 1_000))
-}
-
 // An empty queue, or a frame's length.
 fn head_offered(len: u64) -> bool
     ensures { λ r. ⌜ r ≡ headOffered len ⌝ }
 {
-    (len == 0) | ((64 <= len) & (len <= 2_000))
+    let frame = frame_offered(len);
+    (len == 0) | frame
 }
 
 // One of the heads is neither.
@@ -45,7 +42,7 @@ fn answer_of(f: Frame) -> Choice
     ensures { λ r. ⌜ r ≡ choiceOf none (decodeFrame f) ⌝ }
 {
     if f.present == 1 {
-        return Choice::Frame(f.class, f.start, f.end);
+        return Choice::Frame(f.class, f.start, f.last, f.end);
     }
     Choice::Nothing
 }

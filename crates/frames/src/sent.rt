@@ -4,18 +4,26 @@ ghost use Rattle.frames.specs.Frame.{frameFormed, noFrame};
 use crate::Frame;
 use timetable::minus;
 
-// The longest time that a frame takes: 2,000 octets at 10 Mbit/s.
-const LONGEST_SPAN: u64 = 1_606_400;
+// The longest time from a frame's start to the next: 2,000 octets at 10 Mbit/s and the gap.
+const LONGEST_SPAN: u64 = 1_616_000;
 
 // Whether a frame is well formed at an instant.
 pub fn frame_formed(f: Frame, clock: u64) -> bool
     ensures { λ r. ⌜ r ≡ frameFormed f clock ⌝ }
 {
-    let span = minus(f.end, f.start);
-    let there = f.present == 1;
-    let marks = (f.present <= 1) & (f.counted <= 1);
-    let sent = (f.class <= 7) & ((f.start <= clock) & ((clock < f.end) & (span <= LONGEST_SPAN)));
-    let none = (f.class == 0) & ((f.start == 0) & ((f.end == 0) & (f.counted == 0)));
+    let present = f.present;
+    let class = f.class;
+    let counted = f.counted;
+    let start = f.start;
+    let last = f.last;
+    let end = f.end;
+    let span = minus(end, start);
+    let there = present == 1;
+    let marks = (present <= 1) & (counted <= 1);
+    let ordered = (start < last) & ((last < end) & (span <= LONGEST_SPAN));
+    let sent = (class <= 7) & ((start <= clock) & ((clock < end) & ordered));
+    let zeros = (start == 0) & ((last == 0) & ((end == 0) & (counted == 0)));
+    let none = (class == 0) & zeros;
     marks & ((there & sent) | (!there & none))
 }
 
@@ -28,6 +36,7 @@ pub fn no_frame() -> Frame
         class: 0,
         counted: 0,
         start: 0,
+        last: 0,
         end: 0,
     }
 }

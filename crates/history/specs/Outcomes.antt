@@ -90,7 +90,7 @@ isDone answer.Done = true
 isDone (answer.Refused r) = false
 
 abbrev pub isDecided : Choice → Bool
-isDecided (choice.Frame class start end) = true
+isDecided (choice.Frame class start last end) = true
 isDecided choice.Nothing = true
 isDecided (choice.Refused r) = false
 

@@ -1,5 +1,5 @@
 -- Document 01, 'Choosing a frame', of a port record: an accepted transmit chooses no frame exactly if no class qualifies (`chooses-none`), the class that it
--- chooses is the highest that does (`chooses-highest`), and its frame begins now and takes its duration (`chooses-frame`). The record after an accepted transmit
+-- chooses is the highest that does (`chooses-highest`), and its frame begins now, with its duration to the last octet and the gap after it (`chooses-frame`). The record after an accepted transmit
 -- stands for the port after the act (`transmit-carried`), and is well formed (`transmit-formed`). Case 9 of document 01 is in the table of crate `rule`, and
 -- holds of the record by `transmit-carried`.
 -- Assumes nothing.
@@ -14,7 +14,7 @@ use lib.ListN.{getD}
 use Rattle.rule.specs.declared.Refusal.{Refusal}
 use Rattle.rule.specs.Timetable.{shown}
 use Rattle.rule.specs.Port as model
-use Rattle.rule.specs.Choice.{duration, qualifies}
+use Rattle.rule.specs.Choice.{duration, nextStart, qualifies}
 use Rattle.rule.specs.Acts.{transmit, performed, perform, isSome}
 use Rattle.rule.specs.Orders.{accepts}
 use Rattle.rule.proofs.Choice.{Highest, Chosen, chosen-is, chosen-none}
@@ -64,18 +64,29 @@ module _ (heads : List ℕ) (speed : ℕ) (p : Port) (r : Transmitted) (k : Tran
         nothing none q = refl
         nothing (some f) q = let z : _≡_ {A = ℕ} 0 1 = cc in absurd (omega arith)
 
-    module _ (class start end : ℕ) (a : r .answer ≡ choice.Frame class start end) where
-      framed : (o : Option model.Frame) → choiceOf none o ≡ choice.Frame class start end → Chosen heads speed (decode p .gates .clock) qualifiesNow o
-          → Highest qualifiesNow 8 (some class) × ((start ≡ decode p .gates .clock) × (end ≡ decode p .gates .clock + duration (getD heads class 0) speed))
+    -- the instants of a frame of this class that begins now
+    abbrev pub Timed : ℕ → ℕ → ℕ → ℕ → Type 0
+    Timed class start last end =
+        let now : ℕ = decode p .gates .clock in
+        let len : ℕ = getD heads class 0 in
+        (start ≡ now) × ((last ≡ now + duration len speed) × (end ≡ now + nextStart len speed))
+
+    module _ (class start last end : ℕ) (a : r .answer ≡ choice.Frame class start last end) where
+      framed : (o : Option model.Frame) → choiceOf none o ≡ choice.Frame class start last end → Chosen heads speed (decode p .gates .clock) qualifiesNow o
+          → Highest qualifiesNow 8 (some class) × Timed class start last end
       framed none q c = let z : _≡_ {A = ℕ} 0 1 = cc in absurd (omega arith)
       framed (some f) q c =
           let x : f .class ≡ class = cc in
           let y : f .start ≡ start = cc in
-          let z : f .end ≡ end = cc in (
+          let z : f .last ≡ last = cc in
+          let v : f .end ≡ end = cc in (
             subst (λ n. Highest qualifiesNow 8 (some n)) x (c .0),
             (
               sym y ∙ ap (λ (g : model.Frame). g .start) (c .1),
-              sym z ∙ ap (λ (g : model.Frame). g .end) (c .1) ∙ ap (λ n. decode p .gates .clock + duration (getD heads n 0) speed) x,
+              (
+                sym z ∙ ap (λ (g : model.Frame). g .last) (c .1) ∙ ap (λ n. decode p .gates .clock + duration (getD heads n 0) speed) x,
+                sym v ∙ ap (λ (g : model.Frame). g .end) (c .1) ∙ ap (λ n. decode p .gates .clock + nextStart (getD heads n 0) speed) x,
+              ),
             ),
           )
 
@@ -84,7 +95,7 @@ module _ (heads : List ℕ) (speed : ℕ) (p : Port) (r : Transmitted) (k : Tran
           framed (performed (transmit heads speed) (decode p) .frame) (sym answered ∙ a)
           (chosen-is heads speed (decode p .gates .clock) (shown (decode p .gates))) .0
 
-      pub chooses-frame : (start ≡ decode p .gates .clock) × (end ≡ decode p .gates .clock + duration (getD heads class 0) speed)
+      pub chooses-frame : Timed class start last end
       chooses-frame =
           framed (performed (transmit heads speed) (decode p) .frame) (sym answered ∙ a)
           (chosen-is heads speed (decode p .gates .clock) (shown (decode p .gates))) .1

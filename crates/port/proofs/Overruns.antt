@@ -23,11 +23,11 @@ use Rattle.port.proofs.Coding.{gates-fine, frame-part}
 use Rattle.port.proofs.Sending.{marked-is, counted-is}
 
 pub shut-is : (f : Frame) (octet t : ℕ)
-    → isMarked (f .present) && (not (isMarked (f .counted)) && (ltb t (f .end) && not (isOpen octet (f .class)))) ≡ model.overran t octet (decodeFrame f)
+    → isMarked (f .present) && (not (isMarked (f .counted)) && (ltb t (f .last) && not (isOpen octet (f .class)))) ≡ model.overran t octet (decodeFrame f)
 unfolding decodeFrame model.lastOctetAt
 shut-is f octet t = go (isMarked (f .present))
   where
-    go : (b : Bool) → b && (not (isMarked (f .counted)) && (ltb t (f .end) && not (isOpen octet (f .class)))) ≡ model.overran t octet (present b (sentFrame f))
+    go : (b : Bool) → b && (not (isMarked (f .counted)) && (ltb t (f .last) && not (isOpen octet (f .class)))) ≡ model.overran t octet (present b (sentFrame f))
     go true = refl
     go false = refl
 

@@ -167,7 +167,7 @@ module _ (f : record-frame.Frame) (octet clock end n : ℕ) (at os : List ℕ) w
       pub back-met : b ≡ true → MetBy f octet clock end n at os true
       back-met e g w o = behind-met g clock end n at os w (decodeFrame f) i from shown (k g w o) h (shut-here ∙ e)
 
-      pub back-over : b ≡ false → f .end ≤ change → MetBy f octet clock end n at os false
+      pub back-over : b ≡ false → f .last ≤ change → MetBy f octet clock end n at os false
       unfolding decodeFrame lastOctetAt
       back-over e l g w o =
           behind-over g clock end n at os w (decodeFrame f) i from shown (k g w o) h (isMarked (f .present)) (sentFrame f) refl (shut-here ∙ e) (omega arith)
@@ -183,11 +183,11 @@ module _ (f : record-frame.Frame) (octet clock end n : ℕ) (at os : List ℕ) w
 
 -- the closed gate as the record has it
 pub shut-in-is : (f : record-frame.Frame) (o lo hi : ℕ)
-    → isMarked (f .present) && (not (isMarked (f .counted)) && (ltb lo hi && (ltb lo (f .end) && not (isOpen o (f .class))))) ≡ shutIn (decodeFrame f) o lo hi
+    → isMarked (f .present) && (not (isMarked (f .counted)) && (ltb lo hi && (ltb lo (f .last) && not (isOpen o (f .class))))) ≡ shutIn (decodeFrame f) o lo hi
 unfolding shutIn decodeFrame lastOctetAt
 shut-in-is f o lo hi = go (isMarked (f .present))
   where
-    go : (b : Bool) → b && (not (isMarked (f .counted)) && (ltb lo hi && (ltb lo (f .end) && not (isOpen o (f .class))))) ≡ shutIn (present b (sentFrame f)) o lo hi
+    go : (b : Bool) → b && (not (isMarked (f .counted)) && (ltb lo hi && (ltb lo (f .last) && not (isOpen o (f .class))))) ≡ shutIn (present b (sentFrame f)) o lo hi
     go true = refl
     go false = refl
 

@@ -23,7 +23,7 @@ withGates g p = record { frame = p .frame; gates = g; overruns = p .overruns }
 -- a frame that is there, marked and counted if b
 abbrev pub markedFrame : Bool → Frame → Frame
 markedFrame b f =
-    cond (b && isMarked (f .present)) (record { present = f .present; class = f .class; counted = 1; start = f .start; end = f .end }) f
+    cond (b && isMarked (f .present)) (record { present = f .present; class = f .class; counted = 1; start = f .start; last = f .last; end = f .end }) f
 
 abbrev pub countedFor : Bool → Frame → List ℕ → List ℕ
 countedFor b f l = cond ((b && isMarked (f .present)) && leb (f .class) 7) (set l (f .class) (raise (getD l (f .class) 0))) l

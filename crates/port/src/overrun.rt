@@ -13,7 +13,7 @@ fn shut(f: Frame, octet: u8, t: u64) -> bool
     ensures { λ r. ⌜ r ≡ model.overran t octet (decodeFrame f) ⌝ }
 {
     let is_open = gatelist::gate(octet, f.class);
-    (f.present == 1) & (!(f.counted == 1) & ((t < f.end) & !is_open))
+    (f.present == 1) & (!(f.counted == 1) & ((t < f.last) & !is_open))
 }
 
 // The frame with its overrun counted, if it is there and b says so.

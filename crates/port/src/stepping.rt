@@ -25,7 +25,7 @@ fn shut_in(f: Frame, octet: u8, lo: u64, hi: u64) -> bool
     ensures { λ r. ⌜ r ≡ shutIn (decodeFrame f) octet lo hi ⌝ }
 {
     let is_open = gatelist::gate(octet, f.class);
-    (f.present == 1) & (!(f.counted == 1) & ((lo < hi) & ((lo < f.end) & !is_open)))
+    (f.present == 1) & (!(f.counted == 1) & ((lo < hi) & ((lo < f.last) & !is_open)))
 }
 
 // Whether a frame met a closed gate at an instant after the clock and up to end, by the octet at the clock and the changes written since.
@@ -49,7 +49,7 @@ fn met(
         if shut_in(f, shown, most(from, clock + 1), change) {
             return true;
         }
-        if f.end <= change {
+        if f.last <= change {
             return false;
         }
         from = change;

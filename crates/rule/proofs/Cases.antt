@@ -14,9 +14,9 @@ use Rattle.rule.specs.Entries.{Entry, entryNo, octetAt}
 use Rattle.rule.specs.Cycle.{Config, cycleOffered, startNo, cycleNo, firstNo, changeInstant, lastNo, plainStart, bentStart, plainOctet, bentOctet}
 use Rattle.rule.specs.Timetable.{Timetable, Waiting, raise, octetUnder, shown, shownNow}
 use Rattle.rule.specs.Port.{Port, Frame, lastOctetAt}
-use Rattle.rule.specs.Choice.{duration, staysOpen, qualifies, highest, frameFor, chosen}
+use Rattle.rule.specs.Choice.{duration, nextStart, staysOpen, qualifies, highest, frameFor, chosen}
 use Rattle.rule.specs.Acts.{submit, Submission, isSome, configOf, errorsAfter, submitted, performGates, transmit, perform}
-use Rattle.rule.specs.Orders.{lengthOffered, hasZeroInterval, speedOffered, headOffered, submitOrder, transmitOrder, gateOrder, actOrder}
+use Rattle.rule.specs.Orders.{lengthOffered, hasZeroInterval, speedOffered, frameOffered, headOffered, submitOrder, transmitOrder, gateOrder, actOrder}
 
 -- list A, and a submission of it every 1,000 ns
 listA : List Entry
@@ -118,7 +118,7 @@ starred =
     -- 8
     ∷ (cycleNumber 1 1, 0) ∷ (cycleNumber 1 3, 8) ∷ (cycleNumber 2 1, 8) ∷ (cycleNumber 0 5, 8) ∷ (cycleNumber 1 2_000_000_000, 8)
     -- 9
-    ∷ (duration 64 1_000, 576) ∷ (asks 5_424, 0) ∷ (choice 5_424, 0) ∷ (asks 5_425, 0) ∷ (choice 5_425, 8)
+    ∷ (duration 64 1_000, 576) ∷ (nextStart 64 1_000, 672) ∷ (asks 5_424, 0) ∷ (choice 5_424, 0) ∷ (asks 5_425, 0) ∷ (choice 5_425, 8)
     -- 10
     ∷ (plainOctet longer 5_999, 0x01) ∷ (plainOctet longer 6_000, 0x80)
     ∷ []
@@ -130,8 +130,8 @@ hold (x ∷ l) = cond (eqb (x .0) (x .1)) (hold l) false
 pub starred-hold : T (hold starred)
 unfolding starred hold listA submissionA gatesOf idle configA runsA number submits after changeOf change waits last cycleNumber sends asks classOf choice longer
     isOpen entryNo octetAt cycleOffered startNo cycleNo firstNo changeInstant lastNo plainStart bentStart plainOctet bentOctet
-    raise octetUnder shown shownNow duration staysOpen qualifies highest frameFor chosen configOf errorsAfter submitted perform
-    lengthOffered hasZeroInterval speedOffered headOffered submitOrder transmitOrder lastOctetAt
+    raise octetUnder shown shownNow duration nextStart staysOpen qualifies highest frameFor chosen configOf errorsAfter submitted perform
+    lengthOffered hasZeroInterval speedOffered frameOffered headOffered submitOrder transmitOrder lastOctetAt
 starred-hold = tt
 
 -- a table that another crate puts in front of this one holds as a whole

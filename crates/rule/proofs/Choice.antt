@@ -14,7 +14,7 @@ use lib.ListN.{getD}
 use borrow.Author.Tests.{eqb-true, eqb-false, ne-eqb}
 use Rattle.rule.specs.Gates.{isOpen}
 use Rattle.rule.specs.Port.{Frame}
-use Rattle.rule.specs.Choice.{duration, staysOpen, qualifies, highest, frameFor, chosen}
+use Rattle.rule.specs.Choice.{duration, nextStart, staysOpen, qualifies, highest, frameFor, chosen}
 use Rattle.rule.specs.Acts.{isSome}
 use Rattle.rule.specs.Orders.{speedOffered}
 
@@ -47,7 +47,8 @@ highest-is q (suc n) = go (q n) refl (highest q n) (highest-is q n)
 abbrev pub Chosen : List ℕ → ℕ → ℕ → (ℕ → Bool) → Option Frame → Type 0
 Chosen heads speed t q none = (j : ℕ) → j < 8 → q j ≡ false
 Chosen heads speed t q (some f) =
-    Highest q 8 (some (f .class)) × (f ≡ record { class = f .class; start = t; end = t + duration (getD heads (f .class) 0) speed; counted = false })
+    let len : ℕ = getD heads (f .class) 0 in
+    Highest q 8 (some (f .class)) × (f ≡ record { class = f .class; start = t; last = t + duration len speed; end = t + nextStart len speed; counted = false })
 
 module _ (heads : List ℕ) (speed t : ℕ) (g : ℕ → ℕ) where
   pub chosen-is : Chosen heads speed t (qualifies heads speed t g) (chosen heads speed t g)
@@ -136,6 +137,12 @@ pub duration-some : (n v : ℕ) → 0 < v → v ≤ 1_000 → 0 < duration n v
 unfolding duration
 duration-some n v p q = le-div-iff-mul-le p .1 (omega arith)
 
+pub gap-some : (v : ℕ) → 0 < v → v ≤ 1_000 → 0 < 96_000 / v
+gap-some v p q = le-div-iff-mul-le p .1 (omega arith)
+
 pub duration-exact : (n v : ℕ) → speedOffered v ≡ true → duration n v * v ≡ (n + 8) * 8_000
 unfolding duration
 duration-exact n = by-speed (λ v. (n + 8) * 8_000 / v * v ≡ (n + 8) * 8_000) (omega arith) (omega arith) (omega arith)
+
+pub gap-exact : (v : ℕ) → speedOffered v ≡ true → 96_000 / v * v ≡ 12 * 8_000
+gap-exact = by-speed (λ v. 96_000 / v * v ≡ 12 * 8_000) (omega arith) (omega arith) (omega arith)

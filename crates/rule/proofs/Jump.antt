@@ -25,9 +25,9 @@ use Rattle.rule.proofs.Shown.{shown-tick}
 use Rattle.rule.proofs.Choice.{stays-cong}
 
 -- the frame is forgotten no sooner than its last octet is out
-pub last-forgotten : (f : Frame) → lastOctetAt f ≤ forgottenAt f
-unfolding lastOctetAt forgottenAt
-last-forgotten f = omega arith
+abbrev pub InOrder : Option Frame → Type 0
+InOrder none = Unit {0}
+InOrder (some f) = lastOctetAt f ≤ forgottenAt f
 
 -- nothing that was due is left: the waiting change and the frame's end lie past the clock
 abbrev pub WaitPast : ℕ → Option Waiting → Type 0
@@ -36,7 +36,11 @@ WaitPast c (some w) = c < w .config .start
 
 abbrev pub FramePast : ℕ → Option Frame → Type 0
 FramePast c none = Unit {0}
-FramePast c (some f) = c < forgottenAt f
+FramePast c (some f) = (c < forgottenAt f) × (lastOctetAt f ≤ forgottenAt f)
+
+past-order : (c : ℕ) (f : Option Frame) → FramePast c f → InOrder f
+past-order c none k = tt
+past-order c (some f) k = k .1
 
 -- nothing is overdue in a sound port
 pub wait-ahead : (t : ℕ) (o : Option Config) (w : Option Waiting) → SoundWaiting t o w → WaitPast t w
@@ -44,9 +48,9 @@ wait-ahead t o none k = tt
 wait-ahead t o (some w) k = k .before
 
 pub frame-ahead : (t : ℕ) (f : Option Frame) → SoundFrame t f → FramePast t f
-unfolding forgottenAt
+unfolding lastOctetAt forgottenAt
 frame-ahead t none k = tt
-frame-ahead t (some f) k = k .before
+frame-ahead t (some f) k = (k .before, omega (arith, k .some-gap))
 
 pub wait-sooner : (c t : ℕ) (w : Option Waiting) → c ≤ t → WaitPast t w → WaitPast c w
 wait-sooner c t none h k = tt
@@ -54,7 +58,7 @@ wait-sooner c t (some w) h k = omega arith
 
 pub frame-sooner : (c t : ℕ) (f : Option Frame) → c ≤ t → FramePast t f → FramePast c f
 frame-sooner c t none h k = tt
-frame-sooner c t (some f) h k = omega arith
+frame-sooner c t (some f) h k = (omega (arith, k .0), k .1)
 
 pub operating-now : (c : ℕ) (o : Option Config) (w : Option Waiting) → WaitPast c w → operatingAt c o w ≡ o
 operating-now c o none h = refl
@@ -66,7 +70,7 @@ waiting-now c (some w) h = rw (lt-leb (w .config .start) c h)
 
 pub frame-now : (c : ℕ) (f : Option Frame) → FramePast c f → frameAt c f ≡ f
 frame-now c none h = refl
-frame-now c (some f) h = rw (lt-leb (forgottenAt f) c h)
+frame-now c (some f) h = rw (lt-leb (forgottenAt f) c (h .0))
 
 pub marked-no : (f : Option Frame) → marked false f ≡ f
 marked-no none = refl
@@ -213,30 +217,30 @@ module _ (g : ℕ → ℕ) (c n t : ℕ) (later : suc c ≤ t) where
   by-first x y p q a b = record { fr = rw p a; ct = rw (p, q) b }
 
   -- the frame's end has come; it was counted before; its last octet is out; its gate is closed; its gate is open
-  same-some : (f : Frame) (l : List ℕ) (b : Bool) → leb (forgottenAt f) (suc c) ≡ b → (k : Bool) → f .counted ≡ k
+  same-some : (f : Frame) → InOrder (some f) → (l : List ℕ) (b : Bool) → leb (forgottenAt f) (suc c) ≡ b → (k : Bool) → f .counted ≡ k
       → (w : Bool) → ltb (suc c) (lastOctetAt f) ≡ w → (o : Bool) → isOpen (g (suc c)) (f .class) ≡ o → Same (some f) l
   unfolding first-frame first-count
-  same-some f l true e k p w r o q =
+  same-some f h l true e k p w r o q =
       let z : forgottenAt f ≤ suc c = leb-true (forgottenAt f) (suc c) e in
-      by-first none l (rw e) (rw e) (sym (gone (meets g c (suc n) (some f)) f t (omega arith))) (rw (meets-over g c (suc n) f (omega (arith, last-forgotten f))))
-  same-some f l false e true p w r o q =
+      by-first none l (rw e) (rw e) (sym (gone (meets g c (suc n) (some f)) f t (omega arith))) (rw (meets-over g c (suc n) f (omega (arith, h))))
+  same-some f h l false e true p w r o q =
       by-first (some f) l (rw (e, p)) (rw (e, p)) (rw (meets-counted g (suc c) n f p, meets-counted g c (suc n) f p)) (rw (meets-counted g (suc c) n f p, meets-counted g c (suc n) f p))
-  same-some f l false e false p false r o q =
+  same-some f h l false e false p false r o q =
       let z : lastOctetAt f ≤ suc c = ltb-false (suc c) (lastOctetAt f) r in
       by-first (some f) l (rw (e, r, p)) (rw (e, r, p)) (rw (meets-over g (suc c) n f (omega arith), meets-over g c (suc n) f z)) (rw (meets-over g (suc c) n f (omega arith), meets-over g c (suc n) f z))
-  same-some f l false e false p true r false q =
+  same-some f h l false e false p true r false q =
       let z : suc c < lastOctetAt f = ltb-true (suc c) (lastOctetAt f) r in
-      let f′ : Frame = record { class = f .class; start = f .start; end = f .end; counted = true } in
+      let f′ : Frame = record { class = f .class; start = f .start; last = f .last; end = f .end; counted = true } in
       by-first (some f′) (set l (f .class) (raise (getD l (f .class) 0))) (rw (e, r, q, p)) (rw (e, r, q, p))
       (rw (meets-closed g c n f p z q, meets-counted g (suc c) n f′ refl)) (rw (meets-closed g c n f p z q, meets-counted g (suc c) n f′ refl))
-  same-some f l false e false p true r true q =
+  same-some f h l false e false p true r true q =
       let z : suc c < lastOctetAt f = ltb-true (suc c) (lastOctetAt f) r in
       by-first (some f) l (rw (e, r, q, p)) (rw (e, r, q, p)) (rw (meets-open g c n f z q)) (rw (meets-open g c n f z q))
 
-  same : (r : Option Frame) (l : List ℕ) → Same r l
+  same : (r : Option Frame) → InOrder r → (l : List ℕ) → Same r l
   unfolding first-frame first-count
-  same none l = record { fr = refl; ct = refl }
-  same (some f) l = same-some f l (leb (forgottenAt f) (suc c)) refl (f .counted) refl (ltb (suc c) (lastOctetAt f)) refl (isOpen (g (suc c)) (f .class)) refl
+  same none h l = record { fr = refl; ct = refl }
+  same (some f) h l = same-some f h l (leb (forgottenAt f) (suc c)) refl (f .counted) refl (ltb (suc c) (lastOctetAt f)) refl (isOpen (g (suc c)) (f .class)) refl
 
 -- the jump
 
@@ -246,9 +250,9 @@ jump n p =
     let b : Bool = meets (shown (p .gates)) (p .gates .clock) n (p .frame) in
     record { gates = due t (p .gates); frame = frameAt t (marked b (p .frame)); overruns = counted b (p .frame) (p .overruns) }
 
-tick-jump : (n : ℕ) (p : Port) → jump n (portTick p) ≡ jump (suc n) p
+tick-jump : (n : ℕ) (p : Port) → InOrder (p .frame) → jump n (portTick p) ≡ jump (suc n) p
 unfolding jump portTick tick shownNow first-frame first-count
-tick-jump n p =
+tick-jump n p h =
     let c : ℕ = p .gates .clock in
     let t : ℕ = c + suc n in
     let e : suc c + n ≡ t = omega arith in
@@ -257,7 +261,7 @@ tick-jump n p =
     let e₀ : shown (q .gates) (suc c) ≡ g (suc c) = shown-tick (p .gates) (suc c) (omega arith) in
     let m : meets (shown (q .gates)) (suc c) n (q .frame) ≡ meets g (suc c) n (q .frame) =
     meets-cong (shown (q .gates)) g (suc c) n (q .frame) (λ u l. shown-tick (p .gates) u (omega arith)) in
-    let s = same g c n t (omega arith) (p .frame) (p .overruns) in
+    let s = same g c n t (omega arith) (p .frame) h (p .overruns) in
     let d : Option Frame = frameAt (suc c) (p .frame) in
     let frame-is : frameAt (suc c + n) (marked (meets (shown (q .gates)) (suc c) n (q .frame)) (q .frame))
     ≡ frameAt t (marked (meets g c (suc n) (p .frame)) (p .frame)) =
@@ -271,15 +275,15 @@ tick-jump n p =
     ∙ s .ct in
     λ i. record { gates = due-tick n (p .gates) i; frame = frame-is i; overruns = count-is i }
 
-frame-past : (u : ℕ) (b : Bool) (f : Option Frame) → FramePast u (marked b (frameAt u f))
-unfolding forgottenAt
-frame-past u b none = tt
-frame-past u b (some f) = go b (leb (f .end) u) refl
+frame-past : (u : ℕ) (b : Bool) (f : Option Frame) → InOrder f → FramePast u (marked b (frameAt u f))
+unfolding lastOctetAt forgottenAt
+frame-past u b none h = tt
+frame-past u b (some f) h = go b (leb (f .end) u) refl
   where
     go : (b d : Bool) → leb (f .end) u ≡ d → FramePast u (marked b (cond d none (some f)))
     go b true e = tt
-    go true false e = omega (arith, leb-false)
-    go false false e = omega (arith, leb-false)
+    go true false e = (omega (arith, leb-false), h)
+    go false false e = (omega (arith, leb-false), h)
 
 jump-none : (p : Port) → WaitPast (p .gates .clock) (p .gates .waiting) → FramePast (p .gates .clock) (p .frame) → jump 0 p ≡ p
 unfolding jump
@@ -297,4 +301,4 @@ pub ticks-jump : (n : ℕ) (p : Port) → WaitPast (p .gates .clock) (p .gates .
 unfolding ticks portTick
 ticks-jump zero p hw hf = sym (jump-none p hw hf)
 ticks-jump (suc n) p hw hf =
-    ticks-jump n (portTick p) (wait-past (suc (p .gates .clock)) (p .gates .waiting)) (frame-past (suc (p .gates .clock)) _ (p .frame)) ∙ tick-jump n p
+    ticks-jump n (portTick p) (wait-past (suc (p .gates .clock)) (p .gates .waiting)) (frame-past (suc (p .gates .clock)) _ (p .frame) (past-order (p .gates .clock) (p .frame) hf)) ∙ tick-jump n p (past-order (p .gates .clock) (p .frame) hf)

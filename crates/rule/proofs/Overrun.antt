@@ -17,7 +17,7 @@ use borrow.Author.Tests.{leb-true, ltb-true, ltb-false, le-ltb, eqb-true, eqb-fa
 use Rattle.rule.specs.Gates.{isOpen}
 use Rattle.rule.specs.Timetable.{raise, shown, shownNow, tick}
 use Rattle.rule.specs.Port.{Port, Frame, lastOctetAt, forgottenAt, frameAt, overran, marked, counted, portTick, newPort}
-use Rattle.rule.specs.Choice.{duration, qualifies, highest, frameFor, chosen}
+use Rattle.rule.specs.Choice.{duration, nextStart, qualifies, highest, frameFor, chosen}
 use Rattle.rule.specs.Acts.{Act, gates, transmit, performed, perform}
 use Rattle.rule.specs.Orders.{acceptsGates, accepts}
 use Rattle.rule.specs.Machine.{ticks, Outcome}
@@ -28,7 +28,7 @@ use Rattle.rule.proofs.Cut.{cases, clock-ticks, Timely, timely-mono, ru
 use Rattle.rule.proofs.Laws.{clock-perform, lawful}
 use Rattle.rule.proofs.Orders.{transmit-passed}
 use Rattle.rule.proofs.Choice.{chosen-same}
-use Rattle.rule.proofs.Jump.{last-forgotten, none-of, closed-none, closed-over, closed-now, closed-later}
+use Rattle.rule.proofs.Jump.{InOrder, none-of, closed-none, closed-over, closed-now, closed-later}
 use Rattle.rule.proofs.Track.{Tracks, raise-mod, tracks-tick, tracks-shown, tracks-perform, tracks-new}
 
 -- the gates by the acts of the port
@@ -108,10 +108,10 @@ tested-bits true true z y = refl
 tested-bits true false true y = refl
 tested-bits true false false y = omega arith
 
--- the frame is of one of the eight classes
+-- the frame is of one of the eight classes, and forgotten no sooner than its last octet is out
 abbrev FrameGood : Option Frame → Type 0
 FrameGood none = Unit {0}
-FrameGood (some f) = f .class < 8
+FrameGood (some f) = (f .class < 8) × InOrder (some f)
 
 -- what the overrun test at t with the octet o adds to class k's counter
 abbrev hit : ℕ → ℕ → ℕ → Option Frame → ℕ
@@ -159,12 +159,12 @@ tested-pending s₀ k h t l e f =
 
 -- one instant more
 
-pending-tick : (s₀ k : ℕ) (h : PortHistory) (c : ℕ) (l : List (ℕ × Act)) (e : ℕ) (r : Option Frame) → Timely machine lawful (suc c) l e
+pending-tick : (s₀ k : ℕ) (h : PortHistory) (c : ℕ) (l : List (ℕ × Act)) (e : ℕ) (r : Option Frame) → FrameGood r → Timely machine lawful (suc c) l e
     → let o : ℕ = octetOf s₀ h (suc c) in let d : Option Frame = frameAt (suc c) r in
     hit k (suc c) o d + pending s₀ k h (suc c) l e (marked (overran (suc c) o d) d) ≡ pending s₀ k h c l e r
 unfolding pending
-pending-tick s₀ k h c l e none t = refl
-pending-tick s₀ k h c l e (some f) t = go (leb (forgottenAt f) (suc c)) refl
+pending-tick s₀ k h c l e none g t = refl
+pending-tick s₀ k h c l e (some f) g t = go (leb (forgottenAt f) (suc c)) refl
   where
     o : ℕ
     o = octetOf s₀ h (suc c)
@@ -173,7 +173,7 @@ pending-tick s₀ k h c l e (some f) t = go (leb (forgottenAt f) (suc c)) refl
         → hit k (suc c) o (cond b none (some f)) + pending s₀ k h (suc c) l e (marked (overran (suc c) o (cond b none (some f))) (cond b none (some f)))
         ≡ pending s₀ k h c l e (some f)
     go true p =
-        let z : lastOctetAt f ≤ suc c = omega (arith, leb-true (forgottenAt f) (suc c) p, last-forgotten f) in
+        let z : lastOctetAt f ≤ suc c = omega (arith, leb-true (forgottenAt f) (suc c) p, g .1) in
         rw (later-over s₀ f h c (suc c) l e z z t, none-of (not (f .counted)), none-of (eqb (f .class) k))
     go false p =
         tested-pending s₀ k h (suc c) l e f
@@ -198,15 +198,17 @@ pending-begun : (s₀ k : ℕ) (h : PortHistory) (c : ℕ) (l : List (ℕ × Act
     hit k c o r + pending s₀ k h c l e (marked (overran c o r) r) ≡ overrunOf s₀ k h c l e r
 unfolding pending frameFor
 pending-begun s₀ k h c l e hs v none = refl
-pending-begun s₀ k h c l e hs v (some j) = tested-pending s₀ k h c l e (record { class = j; start = c; end = c + duration (getD hs j 0) v; counted = false })
+pending-begun s₀ k h c l e hs v (some j) =
+    let len : ℕ = getD hs j 0 in
+    tested-pending s₀ k h c l e (record { class = j; start = c; last = c + duration len v; end = c + nextStart len v; counted = false })
 
--- the chosen frame is of one of the eight classes
+-- the chosen frame is one of those
 frame-good : (c : ℕ) (hs : List ℕ) (v : ℕ) (q : ℕ → Bool) (n : ℕ) → n ≤ 8 → FrameGood (frameFor hs v c (highest q n))
-unfolding frameFor highest
+unfolding frameFor highest lastOctetAt forgottenAt nextStart
 frame-good c hs v q zero a = tt
 frame-good c hs v q (suc n) a =
     cases (λ x. FrameGood (frameFor hs v c x)) (q n) (some n) (highest q n)
-    (λ _. omega arith)
+    (λ _. (omega arith, omega arith))
     (λ _. frame-good c hs v q n (omega arith))
 
 -- the port's own
@@ -216,6 +218,7 @@ record Good (p : Port) : Type 0 where
   sent : FrameGood (p .frame)
 
 good-marked : (b : Bool) (r : Option Frame) → FrameGood r → FrameGood (marked b r)
+unfolding lastOctetAt forgottenAt
 good-marked b none g = tt
 good-marked true (some f) g = g
 good-marked false (some f) g = g
@@ -272,7 +275,7 @@ kept-tick s₀ k h l e sum p tr t x =
     let c : ℕ = suc (p .gates .clock) in
     tested-kept s₀ k h h l l e sum sum p c (portTick p) (frameAt c (p .frame)) x (good-due c (p .frame) (x .good .sent)) refl
     (tracks-shown (tracks-next s₀ h p tr) c (omega arith)) refl refl
-    (ap (λ n. n + sum) (pending-tick s₀ k h (p .gates .clock) l e (p .frame) t))
+    (ap (λ n. n + sum) (pending-tick s₀ k h (p .gates .clock) l e (p .frame) (x .good .sent) t))
 
 kept-ticks : (s₀ k : ℕ) (h : PortHistory) (l : List (ℕ × Act)) (e sum n : ℕ) (p : Port) → Tracks s₀ (gateActs h) (p .gates)
     → Timely machine lawful (p .gates .clock + n) l e → Kept s₀ k h l e sum p → Kept s₀ k h l e sum (ticks machine n p)

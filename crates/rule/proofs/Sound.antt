@@ -15,9 +15,9 @@ use Rattle.rule.specs.Limits.{largestList, largestInstant, largestCycle,
 use Rattle.rule.specs.Cycle.{Config, Valid, cycleOf, cycleOffered, lastNo}
 use Rattle.rule.specs.Timetable.{Timetable, Waiting, newTimetable, shown, shownNow, operatingAt, waitingAt, due}
 use Rattle.rule.specs.Port.{Port, Frame, forgottenAt, newPort, frameAt, overran, marked, tested, portTick}
-use Rattle.rule.specs.Choice.{duration, qualifies, highest, frameFor, chosen}
+use Rattle.rule.specs.Choice.{duration, nextStart, qualifies, highest, frameFor, chosen}
 use Rattle.rule.specs.Acts.{GateAct, on, off, standing, submit, performGates, Act, gates, transmit, Submission, configOf, submitted, performed, perform}
-use Rattle.rule.specs.Orders.{any, lengthOffered, headOffered, acceptsGates, accepts}
+use Rattle.rule.specs.Orders.{any, lengthOffered, frameOffered, headOffered, acceptsGates, accepts}
 use Rattle.rule.specs.Machine.{ticks}
 use Rattle.rule.specs.Machines.{machine}
 use Rattle.rule.proofs.Soundness.{SoundConfig, SoundOperating, SoundWaiting, SoundTimetable, SoundFrame, Sound}
@@ -26,13 +26,13 @@ use Rattle.rule.proofs.Laws.{timetable-lawful}
 use Rattle.rule.proofs.Orders.{both, PassedSubmit, submit-passed, transmit-passed}
 use Rattle.rule.proofs.Cycles.{Last, last-no}
 use Rattle.rule.proofs.ClosedForms.{change-near}
-use Rattle.rule.proofs.Choice.{speed-range, duration-some}
+use Rattle.rule.proofs.Choice.{speed-range, duration-some, gap-some}
 
 -- time
 
 marked-sound : (t : ℕ) (b : Bool) (f : Option Frame) → SoundFrame t f → SoundFrame t (marked b f)
 marked-sound t b none s = tt
-marked-sound t true (some f) s = record { class = s .class; begun = s .begun; before = s .before; short = s .short }
+marked-sound t true (some f) s = record { class = s .class; begun = s .begun; before = s .before; some-octet = s .some-octet; some-gap = s .some-gap; short = s .short }
 marked-sound t false (some f) s = s
 
 pub sound-tested : (p : Port) → Sound p → Sound (tested p)
@@ -69,7 +69,7 @@ frame-due c t (some f) h s = go (leb (f .end) t) refl
   where
     go : (b : Bool) → leb (f .end) t ≡ b → SoundFrame t (cond b none (some f))
     go true e = tt
-    go false e = let a = s .begun in record { class = s .class; begun = omega arith; before = leb-false (f .end) t e; short = s .short }
+    go false e = let a = s .begun in record { class = s .class; begun = omega arith; before = leb-false (f .end) t e; some-octet = s .some-octet; some-gap = s .some-gap; short = s .short }
 
 idle-due : (t : ℕ) (o : Option Config) (w : Option Waiting) → (o ≡ none) × (w ≡ none) → (operatingAt t o w ≡ none) × (waitingAt t w ≡ none)
 idle-due t o w z = (rw (z .1) (z .0), rw (z .1))
@@ -138,7 +138,7 @@ submission-near x p h k =
 
 -- a head that is offered is at most the longest frame's
 head-short : (n : ℕ) → not (headOffered n) ≡ false → n ≤ longestFrame
-unfolding headOffered
+unfolding headOffered frameOffered
 head-short n e = go (eqb n 0) refl (not-false (cond (eqb n 0) true (leb shortestFrame n && leb n longestFrame)) e)
   where
     go : (b : Bool) → eqb n 0 ≡ b → cond b true (leb shortestFrame n && leb n longestFrame) ≡ true → n ≤ longestFrame
@@ -155,7 +155,7 @@ heads-short (n ∷ l) e k = go (not (headOffered n)) refl e k (λ z j. heads-sho
     go false q e zero f = head-short n q
     go false q e (suc k) f = f e k
 
-pub duration-short : (n v : ℕ) → n ≤ longestFrame → 10 ≤ v → duration n v ≤ longestSpan
+pub duration-short : (n v : ℕ) → n ≤ longestFrame → 10 ≤ v → duration n v ≤ 1_606_400
 unfolding duration
 duration-short n v h k =
     let q : ℕ = (n + 8) * 8_000 / v in
@@ -163,9 +163,17 @@ duration-short n v h k =
     let b : q * 10 ≤ q * v = mul-le-mul-left q k in
     omega arith
 
+pub next-short : (n v : ℕ) → n ≤ longestFrame → 10 ≤ v → nextStart n v ≤ longestSpan
+unfolding nextStart
+next-short n v h k =
+    let q : ℕ = 96_000 / v in
+    let a : q * v ≤ 96_000 = div-mul-le-self 96_000 v in
+    let b : q * 10 ≤ q * v = mul-le-mul-left q k in
+    omega (arith, duration-short n v h k)
+
 frame-sound : (t : ℕ) (heads : List ℕ) (v : ℕ) (q : ℕ → Bool) (n : ℕ) → n ≤ 8 → 10 ≤ v → v ≤ 1_000 → ((k : ℕ) → getD heads k 0 ≤ longestFrame)
     → SoundFrame t (frameFor heads v t (highest q n))
-unfolding frameFor highest
+unfolding frameFor highest nextStart
 frame-sound t heads v q zero a b c h = tt
 frame-sound t heads v q (suc n) a b c h =
     cases (λ x. SoundFrame t (frameFor heads v t x)) (q n) (some n) (highest q n)
@@ -173,7 +181,9 @@ frame-sound t heads v q (suc n) a b c h =
       class = omega arith;
       begun = omega arith;
       before = omega (arith, duration-some (getD heads n 0) v (omega arith) c);
-      short = omega (arith, duration-short (getD heads n 0) v (h n) b);
+      some-octet = omega (arith, duration-some (getD heads n 0) v (omega arith) c);
+      some-gap = omega (arith, gap-some v (omega arith) c);
+      short = omega (arith, next-short (getD heads n 0) v (h n) b);
     })
     (λ _. frame-sound t heads v q n (omega arith) b c h)
 

@@ -44,11 +44,13 @@ pub record SoundTimetable (p : Timetable) : Type 0 where
   pub operating : SoundOperating (p .clock) (p .operating)
   pub waiting : SoundWaiting (p .clock) (p .operating) (p .waiting)
 
--- frame class at most 7, start ≤ clock < end, end − start ≤ 1,606,400
+-- frame class at most 7, start ≤ clock < end, start < last < end, end − start ≤ 1,616,000
 pub record SoundSending (t : ℕ) (f : Frame) : Type 0 where
   pub class : f .class ≤ 7
   pub begun : f .start ≤ t
   pub before : t < f .end
+  pub some-octet : f .start < f .last
+  pub some-gap : f .last < f .end
   pub short : f .end - f .start ≤ longestSpan
 
 abbrev pub SoundFrame : ℕ → Option Frame → Type 0

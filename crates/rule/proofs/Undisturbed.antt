@@ -67,5 +67,5 @@ open-chosen heads speed t g = go (chosen heads speed t g) (chosen-is heads speed
     go (some f) h =
         let z = both (not (eqb (getD heads (f .class) 0) 0)) _ (h .0 .1 .0) in (
           ap (λ (x : Frame). x .counted) (h .1),
-          λ u a b. open-each g (f .class) t (duration (getD heads (f .class) 0) speed) (z .1) u a (omega (arith, ap (λ (x : Frame). x .end) (h .1))),
+          λ u a b. open-each g (f .class) t (duration (getD heads (f .class) 0) speed) (z .1) u a (omega (arith, ap (λ (x : Frame). x .last) (h .1))),
         )

@@ -11,9 +11,12 @@ use lib.ListN.{getD}
 use Rattle.rule.specs.Gates.{isOpen}
 use Rattle.rule.specs.Port.{Frame}
 
--- so many ns a frame of a length takes at a speed in Mbit/s
+-- so many ns a frame of a length takes at a speed in Mbit/s: to its last octet, and to the earliest next start, 12 octet times later
 unfoldable pub duration : ℕ → ℕ → ℕ
 duration len speed = (len + 8) * 8_000 / speed
+
+unfoldable pub nextStart : ℕ → ℕ → ℕ
+nextStart len speed = duration len speed + 96_000 / speed
 
 -- the class's gate is open at each of the n instants from t on, as g shows them
 unfoldable pub staysOpen : (ℕ → ℕ) → ℕ → ℕ → ℕ → Bool
@@ -33,7 +36,9 @@ highest q (suc k) = let r = highest q k in cond (q k) (some k) r
 
 unfoldable pub frameFor : List ℕ → ℕ → ℕ → Option ℕ → Option Frame
 frameFor heads speed t none = none
-frameFor heads speed t (some k) = some (record { class = k; start = t; end = t + duration (getD heads k 0) speed; counted = false })
+frameFor heads speed t (some k) =
+    let len : ℕ = getD heads k 0 in
+    some (record { class = k; start = t; last = t + duration len speed; end = t + nextStart len speed; counted = false })
 
 unfoldable pub chosen : List ℕ → ℕ → ℕ → (ℕ → ℕ) → Option Frame
 chosen heads speed t g = frameFor heads speed t (highest (qualifies heads speed t g) 8)

@@ -22,6 +22,6 @@ shortestFrame = 64
 abbrev pub longestFrame : ℕ
 longestFrame = 2_000
 
--- the longest frame at the lowest speed takes so many nanoseconds
+-- the longest frame at the lowest speed takes so many nanoseconds, the gap after it included
 abbrev pub longestSpan : ℕ
-longestSpan = 1_606_400
+longestSpan = 1_616_000

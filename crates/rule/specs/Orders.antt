@@ -30,9 +30,12 @@ hasZeroInterval l = any (λ (x : Entry). eqb (x .interval) 0) l
 unfoldable pub speedOffered : ℕ → Bool
 speedOffered speed = any (eqb speed) (10 ∷ 100 ∷ 1_000 ∷ [])
 
--- a head length is 0, an empty queue, or that of a frame
+-- a frame's length; a head length is 0, an empty queue, or that of a frame
+unfoldable pub frameOffered : ℕ → Bool
+frameOffered n = leb shortestFrame n && leb n longestFrame
+
 unfoldable pub headOffered : ℕ → Bool
-headOffered n = cond (eqb n 0) true (leb shortestFrame n && leb n longestFrame)
+headOffered n = cond (eqb n 0) true (frameOffered n)
 
 -- Submit: 6, 7, 8, 9, 5, 4
 unfoldable pub submitOrder : Submission → Timetable → List (Bool × Refusal)
@@ -45,6 +48,10 @@ submitOrder x p =
 unfoldable pub transmitOrder : List ℕ → ℕ → Option Frame → List (Bool × Refusal)
 transmitOrder heads speed f =
     (not (speedOffered speed), Speed) ∷ (isSome f, FrameSending) ∷ (any (λ n. not (headOffered n)) heads, HeadLength) ∷ []
+
+-- Duration: 13, 12
+unfoldable pub durationOrder : ℕ → ℕ → List (Bool × Refusal)
+durationOrder len speed = (not (speedOffered speed), Speed) ∷ (not (frameOffered len), HeadLength) ∷ []
 
 -- On, off, standing: none
 abbrev pub gateOrder : GateAct → Timetable → List (Bool × Refusal)

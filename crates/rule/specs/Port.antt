@@ -10,16 +10,18 @@ use lib.ListN.{getD, set, replicate}
 use Rattle.rule.specs.Gates.{isOpen}
 use Rattle.rule.specs.Timetable.{Timetable, newTimetable, raise, shownNow, due}
 
--- a frame being sent; counted: its overrun has been counted
+-- a frame being sent: its last octet is out at last, and the next frame starts no sooner than end, the gap between frames later (document 02, Item 5);
+-- counted: its overrun has been counted
 pub record Frame : Type 0 where
   pub class : ℕ
   pub start : ℕ
+  pub last : ℕ
   pub end : ℕ
   pub counted : Bool
 
 -- the instant before which the frame is on the wire, and the instant at which it is forgotten
 unfoldable pub lastOctetAt : Frame → ℕ
-lastOctetAt f = f .end
+lastOctetAt f = f .last
 
 unfoldable pub forgottenAt : Frame → ℕ
 forgottenAt f = f .end
@@ -45,7 +47,7 @@ overran t octet (some f) = not (f .counted) && (ltb t (lastOctetAt f) && not (is
 
 abbrev pub marked : Bool → Option Frame → Option Frame
 marked b none = none
-marked true (some f) = some (record { class = f .class; start = f .start; end = f .end; counted = true })
+marked true (some f) = some (record { class = f .class; start = f .start; last = f .last; end = f .end; counted = true })
 marked false (some f) = some f
 
 abbrev pub counted : Bool → Option Frame → List ℕ → List ℕ

@@ -281,16 +281,16 @@ module _ {M : Type 1} (𝓤 : URA M) (H : Heap 𝓤) (A : Atoms 𝓤) (W : Given
 
   module _ (was : Is T.the-row h (vals h)) (s : Share) (κ″ : Lft) where
     lends-os : ent 𝓤 (mean 𝓤 H A (cell s h)) (mean 𝓤 H A (later (some (λ (δ : GName). ‵ (shr-os κ″ δ) ⊛ (cell (half s) h ⊛ back-at κ″ s)))))
-    lends-os = L.lends-array 𝓤 H A W T′.mir b o (only (vals h)) κ″ s u8 (uint-vals w8) (uint-tells w8) (uint-makes 𝓤 H A W w8) 128 b at-os (val-8 (h .gates .octets)) _ (sub ! 1 {τ = tyArray (tyInt w8) 128} {d = 96} refl (sub ! 1 {τ = D′.mir} {d = 24} refl (whole !))) (h .gates .octets) (os-is h was) (named 0)
+    lends-os = L.lends-array 𝓤 H A W T′.mir b o (only (vals h)) κ″ s u8 (uint-vals w8) (uint-tells w8) (uint-makes 𝓤 H A W w8) 128 b at-os (val-8 (h .gates .octets)) _ (sub ! 1 {τ = tyArray (tyInt w8) 128} {d = 96} refl (sub ! 1 {τ = D′.mir} {d = 32} refl (whole !))) (h .gates .octets) (os-is h was) (named 0)
 
     lends-vs : ent 𝓤 (mean 𝓤 H A (cell s h)) (mean 𝓤 H A (later (some (λ (δ : GName). ‵ (shr-vs κ″ δ) ⊛ (cell (half s) h ⊛ back-at κ″ s)))))
-    lends-vs = L.lends-array 𝓤 H A W T′.mir b o (only (vals h)) κ″ s u32 (uint-vals w32) (uint-tells w32) (uint-makes 𝓤 H A W w32) 128 b at-vs (val-32 (h .gates .intervals)) _ (sub ! 2 {τ = tyArray (tyInt w32) 128} {d = 224} refl (sub ! 1 {τ = D′.mir} {d = 24} refl (whole !))) (h .gates .intervals) (vs-is h was) (named 0)
+    lends-vs = L.lends-array 𝓤 H A W T′.mir b o (only (vals h)) κ″ s u32 (uint-vals w32) (uint-tells w32) (uint-makes 𝓤 H A W w32) 128 b at-vs (val-32 (h .gates .intervals)) _ (sub ! 2 {τ = tyArray (tyInt w32) 128} {d = 224} refl (sub ! 1 {τ = D′.mir} {d = 32} refl (whole !))) (h .gates .intervals) (vs-is h was) (named 0)
 
     lends-ws : ent 𝓤 (mean 𝓤 H A (cell s h)) (mean 𝓤 H A (later (some (λ (δ : GName). ‵ (shr-ws κ″ δ) ⊛ (cell (half s) h ⊛ back-at κ″ s)))))
-    lends-ws = L.lends-array 𝓤 H A W T′.mir b o (only (vals h)) κ″ s u8 (uint-vals w8) (uint-tells w8) (uint-makes 𝓤 H A W w8) 128 b at-ws (val-8 (h .gates .newoctets)) _ (sub ! 3 {τ = tyArray (tyInt w8) 128} {d = 736} refl (sub ! 1 {τ = D′.mir} {d = 24} refl (whole !))) (h .gates .newoctets) (ws-is h was) (named 0)
+    lends-ws = L.lends-array 𝓤 H A W T′.mir b o (only (vals h)) κ″ s u8 (uint-vals w8) (uint-tells w8) (uint-makes 𝓤 H A W w8) 128 b at-ws (val-8 (h .gates .newoctets)) _ (sub ! 3 {τ = tyArray (tyInt w8) 128} {d = 736} refl (sub ! 1 {τ = D′.mir} {d = 32} refl (whole !))) (h .gates .newoctets) (ws-is h was) (named 0)
 
     lends-zs : ent 𝓤 (mean 𝓤 H A (cell s h)) (mean 𝓤 H A (later (some (λ (δ : GName). ‵ (shr-zs κ″ δ) ⊛ (cell (half s) h ⊛ back-at κ″ s)))))
-    lends-zs = L.lends-array 𝓤 H A W T′.mir b o (only (vals h)) κ″ s u32 (uint-vals w32) (uint-tells w32) (uint-makes 𝓤 H A W w32) 128 b at-zs (val-32 (h .gates .newintervals)) _ (sub ! 4 {τ = tyArray (tyInt w32) 128} {d = 864} refl (sub ! 1 {τ = D′.mir} {d = 24} refl (whole !))) (h .gates .newintervals) (zs-is h was) (named 0)
+    lends-zs = L.lends-array 𝓤 H A W T′.mir b o (only (vals h)) κ″ s u32 (uint-vals w32) (uint-tells w32) (uint-makes 𝓤 H A W w32) 128 b at-zs (val-32 (h .gates .newintervals)) _ (sub ! 4 {τ = tyArray (tyInt w32) 128} {d = 864} refl (sub ! 1 {τ = D′.mir} {d = 32} refl (whole !))) (h .gates .newintervals) (zs-is h was) (named 0)
 
     rejoins : ent 𝓤 (⋆ 𝓤 H A (‵ (fdead κ″) ∷ cell (half s) h ∷ back-at κ″ s ∷ [])) (mean 𝓤 H A (later (‵ (fdead κ″) ⊛ cell s h)))
     rejoins = L.rejoins 𝓤 H A W T′.mir b o (only (vals h)) κ″ s
@@ -309,11 +309,11 @@ module _ {M : Type 1} (𝓤 : URA M) (H : Heap 𝓤) (A : Atoms 𝓤) (W : Given
         use1 W (cell fullShare h) (W .laws .raw-at fullShare T′.mir b o (only (vals h))) $
         move ! (1 ∷ []) $ peeks ! T.the-row (Is T.the-row) (shows 𝓤 H A T.the-row) h (vals h) (λ was. drop ! $
         -- [the port's cell; the open borrow; obs; auth; the locals; the shared borrow; heads's token; res]
-        assigns ! (of-opd ! (load ! (from ! (hop ! (look ! 24 refl) (fld ! {τ = D′.mir} {d = 24} refl (fld ! {τ = X′.mir} {d = 0} refl (stop !))))) (look-in ! 0 {τ = X′.mir} (sub ! 0 {τ = X′.mir} {d = 0} refl (sub ! 1 {τ = D′.mir} {d = 24} refl (whole !)))))) (from ! (stop !)) (init ! 16 refl (LL.lawful X.the-type X′.the-laws 𝓤 H A W .typed (h .gates .times) _ (times-is h was) .0)) $
-        assigns ! (addr ! (from ! (hop ! (look ! 24 refl) (fld ! {τ = D′.mir} {d = 24} refl (fld ! {τ = tyArray (tyInt w8) 128} {d = 96} refl (stop !)))))) (from ! (stop !)) (init ! 14 refl (tt, tt)) $
-        assigns ! (addr ! (from ! (hop ! (look ! 24 refl) (fld ! {τ = D′.mir} {d = 24} refl (fld ! {τ = tyArray (tyInt w32) 128} {d = 224} refl (stop !)))))) (from ! (stop !)) (init ! 12 refl (tt, tt)) $
-        assigns ! (addr ! (from ! (hop ! (look ! 24 refl) (fld ! {τ = D′.mir} {d = 24} refl (fld ! {τ = tyArray (tyInt w8) 128} {d = 736} refl (stop !)))))) (from ! (stop !)) (init ! 10 refl (tt, tt)) $
-        assigns ! (addr ! (from ! (hop ! (look ! 24 refl) (fld ! {τ = D′.mir} {d = 24} refl (fld ! {τ = tyArray (tyInt w32) 128} {d = 864} refl (stop !)))))) (from ! (stop !)) (init ! 8 refl (tt, tt)) $
+        assigns ! (of-opd ! (load ! (from ! (hop ! (look ! 24 refl) (fld ! {τ = D′.mir} {d = 32} refl (fld ! {τ = X′.mir} {d = 0} refl (stop !))))) (look-in ! 0 {τ = X′.mir} (sub ! 0 {τ = X′.mir} {d = 0} refl (sub ! 1 {τ = D′.mir} {d = 32} refl (whole !)))))) (from ! (stop !)) (init ! 16 refl (LL.lawful X.the-type X′.the-laws 𝓤 H A W .typed (h .gates .times) _ (times-is h was) .0)) $
+        assigns ! (addr ! (from ! (hop ! (look ! 24 refl) (fld ! {τ = D′.mir} {d = 32} refl (fld ! {τ = tyArray (tyInt w8) 128} {d = 96} refl (stop !)))))) (from ! (stop !)) (init ! 14 refl (tt, tt)) $
+        assigns ! (addr ! (from ! (hop ! (look ! 24 refl) (fld ! {τ = D′.mir} {d = 32} refl (fld ! {τ = tyArray (tyInt w32) 128} {d = 224} refl (stop !)))))) (from ! (stop !)) (init ! 12 refl (tt, tt)) $
+        assigns ! (addr ! (from ! (hop ! (look ! 24 refl) (fld ! {τ = D′.mir} {d = 32} refl (fld ! {τ = tyArray (tyInt w8) 128} {d = 736} refl (stop !)))))) (from ! (stop !)) (init ! 10 refl (tt, tt)) $
+        assigns ! (addr ! (from ! (hop ! (look ! 24 refl) (fld ! {τ = D′.mir} {d = 32} refl (fld ! {τ = tyArray (tyInt w32) 128} {d = 864} refl (stop !)))))) (from ! (stop !)) (init ! 8 refl (tt, tt)) $
         assigns ! (of-opd ! (load ! (from ! (hop ! (look ! 24 refl) (fld ! {τ = F′.mir} {d = 0} refl (stop !)))) (look-in ! 0 {τ = F′.mir} (sub ! 0 {τ = F′.mir} {d = 0} refl (whole !))))) (from ! (stop !)) (init ! 6 refl (LL.lawful F.the-type F′.the-laws 𝓤 H A W .typed (h .frame) _ (sent-is h was) .0)) $
         -- the heads are copied
         move ! (28 ∷ 29 ∷ []) $ looks ! tt Heads (Is Heads) (shows 𝓤 H A Heads) vals-h (array-tells u64 (uint-vals w64) (uint-tells w64) 8) (array-copy 𝓤 H A W u64 (uint-copy 𝓤 H A W w64) 8) hs b′ o′ (λ q″ us.
@@ -344,11 +344,12 @@ module _ {M : Type 1} (𝓤 : URA M) (H : Heap 𝓤) (A : Atoms 𝓤) (W : Given
         use3 W (later (‵ (fdead (α ∷ [])) ⊛ cell fullShare h)) (rejoins was fullShare (α ∷ [])) $ await ! tt $ split ! $ drop ! $
         -- [the port's cell; heads's token; the shared borrow; the open borrow; obs; auth; the locals; res]
         -- the frame is stored field by field, so that no octet between its fields is written
-        assigns ! (of-opd ! (load ! (from ! (fld ! {τ = F′.mir} {d = 24} refl (fld ! {τ = tyInt w8} {d = 0} refl (stop !)))) (look-in ! 20 {τ = tyInt w8} (sub ! 0 {τ = tyInt w8} {d = 0} refl (sub ! 1 {τ = F′.mir} {d = 24} refl (whole !)))))) (from ! (hop ! (look ! 26 refl) (fld ! {τ = F′.mir} {d = 0} refl (fld ! {τ = tyInt w8} {d = 0} refl (stop !))))) (store-in ! 0 {τ = tyInt w8} (sub ! 0 {τ = tyInt w8} {d = 0} refl (sub ! 0 {τ = F′.mir} {d = 0} refl (whole !))) (uint-lawful 𝓤 H A W w8 .typed (r .frame .present) _ (u .0) .0)) $
-        assigns ! (of-opd ! (load ! (from ! (fld ! {τ = F′.mir} {d = 24} refl (fld ! {τ = tyInt w8} {d = 1} refl (stop !)))) (look-in ! 20 {τ = tyInt w8} (sub ! 1 {τ = tyInt w8} {d = 1} refl (sub ! 1 {τ = F′.mir} {d = 24} refl (whole !)))))) (from ! (hop ! (look ! 26 refl) (fld ! {τ = F′.mir} {d = 0} refl (fld ! {τ = tyInt w8} {d = 1} refl (stop !))))) (store-in ! 0 {τ = tyInt w8} (sub ! 1 {τ = tyInt w8} {d = 1} refl (sub ! 0 {τ = F′.mir} {d = 0} refl (whole !))) (uint-lawful 𝓤 H A W w8 .typed (r .frame .class) _ (u .1 .0) .0)) $
-        assigns ! (of-opd ! (load ! (from ! (fld ! {τ = F′.mir} {d = 24} refl (fld ! {τ = tyInt w8} {d = 2} refl (stop !)))) (look-in ! 20 {τ = tyInt w8} (sub ! 2 {τ = tyInt w8} {d = 2} refl (sub ! 1 {τ = F′.mir} {d = 24} refl (whole !)))))) (from ! (hop ! (look ! 26 refl) (fld ! {τ = F′.mir} {d = 0} refl (fld ! {τ = tyInt w8} {d = 2} refl (stop !))))) (store-in ! 0 {τ = tyInt w8} (sub ! 2 {τ = tyInt w8} {d = 2} refl (sub ! 0 {τ = F′.mir} {d = 0} refl (whole !))) (uint-lawful 𝓤 H A W w8 .typed (r .frame .counted) _ (u .1 .1 .0) .0)) $
-        assigns ! (of-opd ! (load ! (from ! (fld ! {τ = F′.mir} {d = 24} refl (fld ! {τ = tyInt w64} {d = 8} refl (stop !)))) (look-in ! 20 {τ = tyInt w64} (sub ! 3 {τ = tyInt w64} {d = 8} refl (sub ! 1 {τ = F′.mir} {d = 24} refl (whole !)))))) (from ! (hop ! (look ! 26 refl) (fld ! {τ = F′.mir} {d = 0} refl (fld ! {τ = tyInt w64} {d = 8} refl (stop !))))) (store-in ! 0 {τ = tyInt w64} (sub ! 3 {τ = tyInt w64} {d = 8} refl (sub ! 0 {τ = F′.mir} {d = 0} refl (whole !))) (uint-lawful 𝓤 H A W w64 .typed (r .frame .start) _ (u .1 .1 .1 .0) .0)) $
-        assigns ! (of-opd ! (load ! (from ! (fld ! {τ = F′.mir} {d = 24} refl (fld ! {τ = tyInt w64} {d = 16} refl (stop !)))) (look-in ! 20 {τ = tyInt w64} (sub ! 4 {τ = tyInt w64} {d = 16} refl (sub ! 1 {τ = F′.mir} {d = 24} refl (whole !)))))) (from ! (hop ! (look ! 26 refl) (fld ! {τ = F′.mir} {d = 0} refl (fld ! {τ = tyInt w64} {d = 16} refl (stop !))))) (store-in ! 0 {τ = tyInt w64} (sub ! 4 {τ = tyInt w64} {d = 16} refl (sub ! 0 {τ = F′.mir} {d = 0} refl (whole !))) (uint-lawful 𝓤 H A W w64 .typed (r .frame .end) _ (u .1 .1 .1 .1 .0) .0)) $
+        assigns ! (of-opd ! (load ! (from ! (fld ! {τ = F′.mir} {d = 32} refl (fld ! {τ = tyInt w8} {d = 0} refl (stop !)))) (look-in ! 20 {τ = tyInt w8} (sub ! 0 {τ = tyInt w8} {d = 0} refl (sub ! 1 {τ = F′.mir} {d = 32} refl (whole !)))))) (from ! (hop ! (look ! 26 refl) (fld ! {τ = F′.mir} {d = 0} refl (fld ! {τ = tyInt w8} {d = 0} refl (stop !))))) (store-in ! 0 {τ = tyInt w8} (sub ! 0 {τ = tyInt w8} {d = 0} refl (sub ! 0 {τ = F′.mir} {d = 0} refl (whole !))) (uint-lawful 𝓤 H A W w8 .typed (r .frame .present) _ (u .0) .0)) $
+        assigns ! (of-opd ! (load ! (from ! (fld ! {τ = F′.mir} {d = 32} refl (fld ! {τ = tyInt w8} {d = 1} refl (stop !)))) (look-in ! 20 {τ = tyInt w8} (sub ! 1 {τ = tyInt w8} {d = 1} refl (sub ! 1 {τ = F′.mir} {d = 32} refl (whole !)))))) (from ! (hop ! (look ! 26 refl) (fld ! {τ = F′.mir} {d = 0} refl (fld ! {τ = tyInt w8} {d = 1} refl (stop !))))) (store-in ! 0 {τ = tyInt w8} (sub ! 1 {τ = tyInt w8} {d = 1} refl (sub ! 0 {τ = F′.mir} {d = 0} refl (whole !))) (uint-lawful 𝓤 H A W w8 .typed (r .frame .class) _ (u .1 .0) .0)) $
+        assigns ! (of-opd ! (load ! (from ! (fld ! {τ = F′.mir} {d = 32} refl (fld ! {τ = tyInt w8} {d = 2} refl (stop !)))) (look-in ! 20 {τ = tyInt w8} (sub ! 2 {τ = tyInt w8} {d = 2} refl (sub ! 1 {τ = F′.mir} {d = 32} refl (whole !)))))) (from ! (hop ! (look ! 26 refl) (fld ! {τ = F′.mir} {d = 0} refl (fld ! {τ = tyInt w8} {d = 2} refl (stop !))))) (store-in ! 0 {τ = tyInt w8} (sub ! 2 {τ = tyInt w8} {d = 2} refl (sub ! 0 {τ = F′.mir} {d = 0} refl (whole !))) (uint-lawful 𝓤 H A W w8 .typed (r .frame .counted) _ (u .1 .1 .0) .0)) $
+        assigns ! (of-opd ! (load ! (from ! (fld ! {τ = F′.mir} {d = 32} refl (fld ! {τ = tyInt w64} {d = 8} refl (stop !)))) (look-in ! 20 {τ = tyInt w64} (sub ! 3 {τ = tyInt w64} {d = 8} refl (sub ! 1 {τ = F′.mir} {d = 32} refl (whole !)))))) (from ! (hop ! (look ! 26 refl) (fld ! {τ = F′.mir} {d = 0} refl (fld ! {τ = tyInt w64} {d = 8} refl (stop !))))) (store-in ! 0 {τ = tyInt w64} (sub ! 3 {τ = tyInt w64} {d = 8} refl (sub ! 0 {τ = F′.mir} {d = 0} refl (whole !))) (uint-lawful 𝓤 H A W w64 .typed (r .frame .start) _ (u .1 .1 .1 .0) .0)) $
+        assigns ! (of-opd ! (load ! (from ! (fld ! {τ = F′.mir} {d = 32} refl (fld ! {τ = tyInt w64} {d = 16} refl (stop !)))) (look-in ! 20 {τ = tyInt w64} (sub ! 4 {τ = tyInt w64} {d = 16} refl (sub ! 1 {τ = F′.mir} {d = 32} refl (whole !)))))) (from ! (hop ! (look ! 26 refl) (fld ! {τ = F′.mir} {d = 0} refl (fld ! {τ = tyInt w64} {d = 16} refl (stop !))))) (store-in ! 0 {τ = tyInt w64} (sub ! 4 {τ = tyInt w64} {d = 16} refl (sub ! 0 {τ = F′.mir} {d = 0} refl (whole !))) (uint-lawful 𝓤 H A W w64 .typed (r .frame .last) _ (u .1 .1 .1 .1 .0) .0)) $
+        assigns ! (of-opd ! (load ! (from ! (fld ! {τ = F′.mir} {d = 32} refl (fld ! {τ = tyInt w64} {d = 24} refl (stop !)))) (look-in ! 20 {τ = tyInt w64} (sub ! 5 {τ = tyInt w64} {d = 24} refl (sub ! 1 {τ = F′.mir} {d = 32} refl (whole !)))))) (from ! (hop ! (look ! 26 refl) (fld ! {τ = F′.mir} {d = 0} refl (fld ! {τ = tyInt w64} {d = 24} refl (stop !))))) (store-in ! 0 {τ = tyInt w64} (sub ! 5 {τ = tyInt w64} {d = 24} refl (sub ! 0 {τ = F′.mir} {d = 0} refl (whole !))) (uint-lawful 𝓤 H A W w64 .typed (r .frame .end) _ (u .1 .1 .1 .1 .1 .0) .0)) $
         assigns ! (of-opd ! (load ! (from ! (fld ! refl (stop !))) (look-in ! 20 (sub ! 0 refl (whole !))))) (from ! (stop !)) (init ! 28 refl (LL.lawful E.the-type E′.the-laws 𝓤 H A W .typed (r .answer) _ (answer-is r _ is) .0)) $
         -- the borrow is closed at the record with the new frame
         use1 W (‵ (cellAt fullShare (T.the-row .mir) (vals (framed h r)) b o)) (W .laws .at-raw fullShare T′.mir b o (only (vals (framed h r)))) $

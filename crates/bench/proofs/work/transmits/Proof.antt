@@ -26,6 +26,9 @@ wrapping-add-u64-requires c κs = search needs
 wrapping-add-u64-requires-2 : tie.Need-wrapping-add-u64-requires-2 Inv-loop μ-loop
 wrapping-add-u64-requires-2 c κs = search needs
 
+wrapping-add-u64-requires-3 : tie.Need-wrapping-add-u64-requires-3 Inv-loop μ-loop
+wrapping-add-u64-requires-3 c κs = search needs
+
 add-i : tie.Need-add-i Inv-loop μ-loop
 add-i c = search needs
 
@@ -49,6 +52,7 @@ transmits-spec =
     wide-requires
     wrapping-add-u64-requires
     wrapping-add-u64-requires-2
+    wrapping-add-u64-requires-3
     add-i
     loop-less
     loop-again

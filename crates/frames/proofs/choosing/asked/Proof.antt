@@ -9,6 +9,7 @@ use lib.ListN.{length, length-set}
 use Rattle.rule.proofs.Choice.{speed-range}
 use Rattle.frames.specs.Choosing.{Asks}
 use Rattle.frames.proofs.Classes.{length-short, asks-none, asks-more}
+use Rattle.frames.proofs.Lasting.{gap-times, gap-short}
 use Rattle.frames.proofs.choosing.asked.Statement.{statement}
 use Rattle.frames.proofs.choosing.asked.Tie as tie
 
@@ -91,12 +92,17 @@ loop-again c =
           (c .before .before .with-bit .ensures) (c .before .pick .ensures) (c .most .ensures);
     }
 
+mul-gap : tie.Need-mul-gap Inv-loop μ-loop
+mul-gap c =
+    let s = c .before .before in
+    omega (arith, gap-short (s .args .speed) (s .pre .0 .fast))
+
 returns : tie.Need-returns Inv-loop μ-loop
 returns c =
     let l = c .before .loop in
     let a = c .before .before .args in
     let e : l .k ≡ 8 = omega arith in
-    subst (λ n. Asks (a .t1) (a .speed) (a .t) n (l .wanted) (l .last) (l .each)) e (l .inv .asks)
+    (subst (λ n. Asks (a .t1) (a .speed) (a .t) n (l .wanted) (l .last) (l .each)) e (l .inv .asks), gap-times (a .speed) (c .before .before .pre .0 .fast))
 
 pub asked-spec : {M : Type 1} → statement M
 asked-spec =
@@ -120,4 +126,5 @@ asked-spec =
     add-k
     loop-less
     loop-again
+    mul-gap
     returns)

@@ -10,8 +10,7 @@ minus-requires c κs = search needs
 
 returns : tie.Need-returns
 unfolding frameFormed frameOk frameNone
-returns c =
-    cc
+returns c = rw (c .minus .ensures)
 
 pub frame-formed-spec : {M : Type 1} → statement M
 frame-formed-spec = tie.close (tie.spec minus-requires returns)

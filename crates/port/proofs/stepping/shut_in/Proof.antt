@@ -16,7 +16,7 @@ returns : tie.Need-returns
 returns c =
     let a = c .before .before .before .before .args in
     let f = a .f in
-    ap (λ b. isMarked (f .present) && (not (isMarked (f .counted)) && (ltb (a .lo) (a .hi) && (ltb (a .lo) (f .end) && not b)))) (c .before .before .before .gate .ensures)
+    ap (λ b. isMarked (f .present) && (not (isMarked (f .counted)) && (ltb (a .lo) (a .hi) && (ltb (a .lo) (f .last) && not b)))) (c .before .before .before .gate .ensures)
     ∙ shut-in-is f (a .octet) (a .lo) (a .hi)
 
 pub shut-in-spec : {M : Type 1} → statement M

@@ -1,8 +1,8 @@
--- `frames::deciding::speed_offered` meets its contract: one of the three speeds.
+-- `frames::lengths::speed_offered` meets its contract: one of the three speeds.
 -- Assumes nothing.
 use Rattle.frames.proofs.Decisions.{speed-test}
-use Rattle.frames.proofs.deciding.speed_offered.Statement.{statement}
-use Rattle.frames.proofs.deciding.speed_offered.Tie as tie
+use Rattle.frames.proofs.lengths.speed_offered.Statement.{statement}
+use Rattle.frames.proofs.lengths.speed_offered.Tie as tie
 
 returns : tie.Need-returns
 returns c = speed-test (c .args .speed)

@@ -169,7 +169,10 @@ static bool call_standing(struct line *l)
     return true;
 }
 
-static bool call_submit(struct line *l)
+/* `submit` is the strict submission, `replace` the replacing one. */
+static bool submission(struct line *l,
+                       unsigned (*submit)(struct port *, const struct port_list *, uint32_t,
+                                          uint32_t, uint32_t, uint64_t))
 {
     static struct port_list list;
     list.length = number64(l);
@@ -180,9 +183,12 @@ static bool call_submit(struct line *l)
     places(l, &list);
     if (!whole(l))
         return false;
-    say_ok_or(port_submit(&port, &list, numerator, denominator, extension, base));
+    say_ok_or(submit(&port, &list, numerator, denominator, extension, base));
     return true;
 }
+
+static bool call_submit(struct line *l) { return submission(l, port_submit_strict); }
+static bool call_replace(struct line *l) { return submission(l, port_submit); }
 
 static bool call_transmit(struct line *l)
 {
@@ -372,7 +378,7 @@ static const struct {
     {"new", call_new},           {"on", call_on},     {"off", call_off},   {"standing", call_standing},
     {"submit", call_submit},     {"step", call_step}, {"look", call_look}, {"transmit", call_transmit},
     {"read", call_read},         {"write", call_write}, {"load", call_load}, {"show", call_show},
-    {"duration", call_duration},
+    {"duration", call_duration}, {"replace", call_replace},
 };
 
 static void answer(const char *text, size_t length)

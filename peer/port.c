@@ -339,15 +339,51 @@ static void set_list(struct port_list *to, const struct port_list *from)
     to->length = from->length;
 }
 
-unsigned port_submit(struct port *p, const struct port_list *list, uint32_t numerator,
-                     uint32_t denominator, uint32_t extension, uint64_t base)
+/* "Until the last old cycle has begun under the waiting change": s <= now and
+ * s < P. What falls due at an instant comes before its acts, so at s itself it
+ * has begun. For a port with a waiting configuration. */
+static bool last_cycle_begun(const struct port *p)
+{
+#ifdef WRONG_SEVEN_NOTHING
+    if (!p->operating_present)
+        return true;
+#endif
+    if (!p->operating_present)
+        return false;
+    const uint64_t s = last_start(p);
+#ifdef WRONG_SEVEN_NEVER
+    (void)s;
+    return false;
+#elif defined WRONG_SEVEN_AFTER
+    return s < p->clock && s < p->waiting.configuration.start;
+#else
+    return s <= p->clock && s < p->waiting.configuration.start;
+#endif
+}
+
+/* Both submissions: a refused one leaves all as it is, so what waits is taken
+ * away only where the new one takes its place. */
+static unsigned submit(struct port *p, const struct port_list *list, uint32_t numerator,
+                       uint32_t denominator, uint32_t extension, uint64_t base, bool replaces)
 {
     if (port_check(p))
         return PORT_RECORD;
     if (!p->on)
         return PORT_OFF;
-    if (p->waiting_present)
+#ifdef WRONG_S_OF_NEW
+    struct port under = *p;
+    if (base > p->clock && base <= PORT_LAST_INSTANT)
+        under.waiting.configuration.start = base;
+    if (p->waiting_present && (!replaces || last_cycle_begun(&under)))
         return PORT_WAITING;
+#else
+    if (p->waiting_present && (!replaces || last_cycle_begun(p)))
+        return PORT_WAITING;
+#endif
+#ifdef WRONG_DROPPED
+    p->waiting_present = 0;
+    memset(&p->waiting, 0, sizeof p->waiting);
+#endif
     if (denominator == 0)
         return PORT_CYCLE;
     const uint64_t product = numerator * UINT64_C(1000000000); /* below 2^62 */
@@ -375,14 +411,33 @@ unsigned port_submit(struct port *p, const struct port_list *list, uint32_t nume
 #endif
         p->errors += p->operating_present ? 1 : 0;
     }
+#ifdef WRONG_ERROR_BACK
+    if (p->waiting_present && p->operating_present)
+        p->errors--;
+#endif
+#ifdef WRONG_FRAME_FORGOTTEN
+    if (p->waiting_present)
+        p->frame = (struct port_frame){0};
+#endif
 
     struct port_configuration *to;
     if (change == now) {
         p->operating_present = 1;
         to = &p->operating;
+#ifndef WRONG_REPLACED_LEFT
+        if (p->waiting_present) {
+            p->waiting_present = 0;
+            memset(&p->waiting, 0, sizeof p->waiting);
+        }
+#endif
     } else {
-        p->waiting_present = 1;
+#ifdef WRONG_OLD_A
+        if (!p->waiting_present)
+            p->waiting.submitted = now;
+#else
         p->waiting.submitted = now;
+#endif
+        p->waiting_present = 1;
         to = &p->waiting.configuration;
     }
     set_list(&to->list, list);
@@ -391,6 +446,21 @@ unsigned port_submit(struct port *p, const struct port_list *list, uint32_t nume
     to->start = change;
     after_act(p);
     return PORT_OK;
+}
+
+unsigned port_submit(struct port *p, const struct port_list *list, uint32_t numerator,
+                     uint32_t denominator, uint32_t extension, uint64_t base)
+{
+    return submit(p, list, numerator, denominator, extension, base, true);
+}
+
+unsigned port_submit_strict(struct port *p, const struct port_list *list, uint32_t numerator,
+                            uint32_t denominator, uint32_t extension, uint64_t base)
+{
+#ifdef WRONG_STRICT_REPLACES
+    return submit(p, list, numerator, denominator, extension, base, true);
+#endif
+    return submit(p, list, numerator, denominator, extension, base, false);
 }
 
 /* ---- Step ---------------------------------------------------------------- */

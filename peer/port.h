@@ -91,9 +91,13 @@ unsigned port_new(struct port *p, uint64_t start, uint8_t standing);
 unsigned port_on(struct port *p);
 unsigned port_off(struct port *p);
 unsigned port_standing(struct port *p, uint8_t standing);
-/* The list must not be one of the port's own. */
+/* The replacing submission: what waits gives way to it until the last old
+ * cycle has begun, then it is 7. The strict one gets 7 whenever one waits. The
+ * list must not be one of the port's own. */
 unsigned port_submit(struct port *p, const struct port_list *list, uint32_t numerator,
                      uint32_t denominator, uint32_t extension, uint64_t base);
+unsigned port_submit_strict(struct port *p, const struct port_list *list, uint32_t numerator,
+                            uint32_t denominator, uint32_t extension, uint64_t base);
 unsigned port_look(const struct port *p, uint64_t t, uint8_t *octet);
 
 /* Writes the number of changes to *written (0 if refused). The two buffers

@@ -304,8 +304,8 @@ static uint64_t smallest_n(uint64_t base, uint64_t c, uint64_t a)
     return low;
 }
 
-unsigned port_submit(struct port *p, const struct port_list *list, uint32_t numerator,
-                     uint32_t denominator, uint32_t extension, uint64_t base)
+unsigned port_submit_strict(struct port *p, const struct port_list *list, uint32_t numerator,
+                            uint32_t denominator, uint32_t extension, uint64_t base)
 {
     if (port_check(p) != 0)
         return 14;
@@ -357,6 +357,26 @@ unsigned port_submit(struct port *p, const struct port_list *list, uint32_t nume
     }
     test_overrun(p, p->clock, shown_now(p));
     return 0;
+}
+
+/* "Replaces the waiting configuration as though that had never been
+ * submitted": a strict submission on the record without it. "From then on it is
+ * 7 as before", and so is everything else that comes before or after it. */
+unsigned port_submit(struct port *p, const struct port_list *list, uint32_t numerator,
+                     uint32_t denominator, uint32_t extension, uint64_t base)
+{
+    if (port_check(p) != 0)
+        return 14;
+    if (!p->waiting_present || bend_of(p) <= p->clock)
+        return port_submit_strict(p, list, numerator, denominator, extension, base);
+    static struct port without;
+    without = *p;
+    without.waiting_present = 0;
+    memset(&without.waiting, 0, sizeof without.waiting);
+    const unsigned no = port_submit_strict(&without, list, numerator, denominator, extension, base);
+    if (no == 0)
+        *p = without;
+    return no;
 }
 
 /* ---- Step ------------------------------------------------------------------ */

@@ -5,7 +5,7 @@ use gatelist::GateList;
 use port::Port;
 
 // A list of one octet.
-fn steady(octet: u8) -> GateList {
+pub fn steady(octet: u8) -> GateList {
     let mut octets = [0u8; 128];
     let mut intervals = [0u32; 128];
     octets[0] = octet;
@@ -18,7 +18,7 @@ fn steady(octet: u8) -> GateList {
 }
 
 // A port at an instant: on, with the standing octet FF.
-fn switched_on(t: u64) -> Port {
+pub fn switched_on(t: u64) -> Port {
     let made = Port::new(t, 0xFF);
     let p = made.port;
     let on = p.on();
@@ -26,7 +26,7 @@ fn switched_on(t: u64) -> Port {
 }
 
 // A port that has come to an instant.
-fn moved(p: Port, goal: u64) -> Port {
+pub fn moved(p: Port, goal: u64) -> Port {
     let mut instants = [0u64; 16];
     let mut octets = [0u8; 16];
     let s = p.step(goal, &mut instants, &mut octets);
@@ -34,7 +34,7 @@ fn moved(p: Port, goal: u64) -> Port {
 }
 
 // With a list submitted, in a cycle of 1,000.
-fn with_list(p: Port, list: GateList, extension: u32, base: u64) -> Port {
+pub fn with_list(p: Port, list: GateList, extension: u32, base: u64) -> Port {
     let done = p.submit(list, 1, 1_000_000, extension, base);
     done.port
 }

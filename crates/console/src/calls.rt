@@ -17,6 +17,8 @@ use crate::record::call_load;
 use crate::record::call_show;
 use frames::Choice;
 use frames::FrameTime;
+use gatelist::GateList;
+use port::Acted;
 use port::Looked;
 use port::Port;
 use port::StepAnswer;
@@ -62,8 +64,24 @@ fn call_standing(s: &[u8], c: Scan, p: Port, out: &mut [u8]) -> Held {
     acted(p.standing(octet.value), out)
 }
 
-// submit LEN NUM DEN EXT BASE K o1 i1 .. oK iK
-fn call_submit(s: &[u8], c: Scan, p: Port, out: &mut [u8]) -> Held {
+// The strict submission, or the one that takes the place of what waits.
+fn submitted(
+    p: Port,
+    strict: bool,
+    list: GateList,
+    numerator: u32,
+    denominator: u32,
+    extension: u32,
+    base: u64,
+) -> Acted {
+    if strict {
+        return p.submit_strict(list, numerator, denominator, extension, base);
+    }
+    p.submit(list, numerator, denominator, extension, base)
+}
+
+// submit LEN NUM DEN EXT BASE K o1 i1 .. oK iK, the strict one; replace with the same tokens
+fn call_submit(s: &[u8], c: Scan, p: Port, strict: bool, out: &mut [u8]) -> Held {
     let len = text::number64(s, c);
     let numerator = text::number32(s, len.scan);
     let denominator = text::number32(s, numerator.scan);
@@ -73,7 +91,9 @@ fn call_submit(s: &[u8], c: Scan, p: Port, out: &mut [u8]) -> Held {
     if !text::at_end(s, l.scan) {
         return no_call(p);
     }
-    let a = p.submit(
+    let a = submitted(
+        p,
+        strict,
         l.list,
         numerator.value,
         denominator.value,
@@ -267,6 +287,9 @@ fn other_call_no(w: &[u8]) -> u8 {
     if text::same(w, b"duration") {
         return 13;
     }
+    if text::same(w, b"replace") {
+        return 14;
+    }
     0
 }
 
@@ -279,7 +302,7 @@ pub fn call(s: &[u8], p: Port, out: &mut [u8]) -> Held {
         2 => call_on(s, c, p, out),
         3 => call_off(s, c, p, out),
         4 => call_standing(s, c, p, out),
-        5 => call_submit(s, c, p, out),
+        5 => call_submit(s, c, p, true, out),
         6 => call_step(s, c, p, out),
         7 => call_look(s, c, p, out),
         8 => call_transmit(s, c, p, out),
@@ -288,6 +311,7 @@ pub fn call(s: &[u8], p: Port, out: &mut [u8]) -> Held {
         11 => call_load(s, c, p, out),
         12 => call_show(s, c, p, out),
         13 => call_duration(s, c, p, out),
+        14 => call_submit(s, c, p, false, out),
         _ => no_call(p),
     }
 }

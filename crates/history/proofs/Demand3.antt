@@ -21,7 +21,7 @@ use Rattle.rule.specs.Series as series
 use Rattle.rule.specs.Machine.{Outcome, ticks, replay, Try, Besides}
 use Rattle.rule.specs.Series.{elapsed}
 use Rattle.rule.specs.Machines.{machine}
-use Rattle.rule.specs.History.{ruleChanges}
+use Rattle.rule.specs.History.{effective, ruleChanges}
 use Rattle.rule.specs.Frames.{gateActs, octetOf}
 use Rattle.rule.proofs.Soundness.{Sound}
 use Rattle.rule.proofs.Cut.{clock-ticks}
@@ -139,7 +139,7 @@ demand-same : {t₀ s₀ : ℕ} {cs ds : List Call} {o q : Outcome Port ℕ rule
     → o .acts ≡ q .acts → o .port .gates .times .clock ≡ q .port .gates .times .clock → o ≡ q
 demand-same {t₀} {s₀} {cs} {ds} {o} {q} d f a c =
     let p = d .final ∙ (λ i. encode (replay machine (a i) (c i) (newPort t₀ s₀))) ∙ sym (f .final) in
-    let l = d .changed ∙ (λ i. ruleChanges s₀ [] t₀ (gateActs (a i)) (c i)) ∙ sym (f .changed) in
+    let l = d .changed ∙ (λ i. ruleChanges s₀ [] t₀ (reverse (effective (gateActs (reverse (a i))))) (c i)) ∙ sym (f .changed) in
     λ i. record { port = p i; out = l i; acts = a i }
 
 module _ (t₀ s₀ : ℕ) (h : t₀ ≤ largestInstant) (r : Acted) (k : Makes t₀ s₀ r) (es fs : List Event) (l : Kept (r .port) es) (m : Kept (r .port) fs) where

@@ -13,7 +13,7 @@ use Rattle.rule.specs.Port.{newPort}
 use Rattle.rule.specs.Acts as rule
 use Rattle.rule.specs.Machine.{Outcome, replay}
 use Rattle.rule.specs.Machines.{machine}
-use Rattle.rule.specs.History.{ruleErrors, ruleChanges}
+use Rattle.rule.specs.History.{effective, ruleErrors, ruleChanges}
 use Rattle.rule.specs.Frames.{gateActs, octetOf, ruleOverruns}
 use Rattle.port.specs.declared.Port.{Port}
 use Rattle.port.specs.declared.Looked.{Looked}
@@ -48,8 +48,8 @@ pub record Demand (t₀ s₀ : ℕ) (cs : List Call) (o : Outcome Port ℕ rule.
   -- the record is well formed, and is that of the accepted acts and the end alone: no steps, no buffers, no refusals
   pub formed : wellFormed (o .port) ≡ true
   pub final : o .port ≡ encode (replay machine (o .acts) (o .port .gates .times .clock) (newPort t₀ s₀))
-  -- the changes in the buffers, joined end to end, are those of the rule over the acts
-  pub changed : o .out ≡ ruleChanges s₀ [] t₀ (gateActs (o .acts)) (o .port .gates .times .clock)
+  -- the changes in the buffers, joined end to end, are those of the rule over the acts less the replaced submissions
+  pub changed : o .out ≡ ruleChanges s₀ [] t₀ (reverse (effective (gateActs (reverse (o .acts))))) (o .port .gates .times .clock)
   -- the octet at the end and at each instant after it is the rule's; so says a look, and so shows the record that a further step comes to
   pub shows : (t : ℕ) → o .port .gates .times .clock ≤ t → shown (decode (o .port) .gates) t ≡ octetOf s₀ (reverse (o .acts)) t
   pub looks : (t : ℕ) → o .port .gates .times .clock ≤ t → t ≤ largestInstant → (r : Looked) → Looks (o .port) t r

@@ -18,7 +18,7 @@ use Rattle.rule.specs.Cycle.{cycleOffered}
 use Rattle.rule.specs.Timetable.{newTimetable}
 use Rattle.rule.specs.Port.{newPort}
 use Rattle.rule.specs.Acts.{isSome, perform}
-use Rattle.rule.specs.Orders.{lengthOffered, hasZeroInterval, submitOrder, stepOrder, newOrder}
+use Rattle.rule.specs.Orders.{lastBegun, lengthOffered, hasZeroInterval, submitOrder, stepOrder, newOrder}
 use Rattle.rule.proofs.Laws.{clock-perform}
 use Rattle.gatelist.specs.Coding.{listFrom}
 use Rattle.octets.specs.Octets.{entryAt, statedOrder, entryOrder, refusedAt, refusalFrom, readRefusal}
@@ -67,9 +67,9 @@ on-is : (h : Sheet) → switchedPort h .gates .on ≡ true
 unfolding perform newPort newTimetable
 on-is h = refl
 
-waits-not : (h : Sheet) → isSome (switchedPort h .gates .waiting) ≡ false
-unfolding perform newPort newTimetable
-waits-not h = refl
+not-late : (h : Sheet) → lastBegun (switchedPort h .gates .clock) (switchedPort h .gates .operating) (switchedPort h .gates .waiting) ≡ false
+unfolding perform newPort newTimetable lastBegun
+not-late h = refl
 
 clock-submitted : (h : Sheet) (l : List Entry) → submittedPort h l .gates .clock ≡ h .start
 unfolding newPort newTimetable
@@ -87,4 +87,4 @@ pub order-told : (s : List ℕ) (h : Sheet) → readRefusal (listOctets s h) (h 
 unfolding callsOrder newOrder submitOrder stepOrder
 order-told s h e =
     let v = read-valid (listOctets s h) (h .length) e in
-    rw (clock-submitted h (entriesOf s h), on-is h, waits-not h, v .0, v .1)
+    rw (clock-submitted h (entriesOf s h), on-is h, not-late h, v .0, v .1)

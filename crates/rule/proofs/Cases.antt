@@ -16,7 +16,7 @@ use Rattle.rule.specs.Timetable.{Timetable, Waiting, raise, octetUnder, 
 use Rattle.rule.specs.Port.{Port, Frame, lastOctetAt}
 use Rattle.rule.specs.Choice.{duration, nextStart, staysOpen, qualifies, highest, frameFor, chosen}
 use Rattle.rule.specs.Acts.{submit, Submission, isSome, configOf, errorsAfter, submitted, performGates, transmit, perform}
-use Rattle.rule.specs.Orders.{lengthOffered, hasZeroInterval, speedOffered, frameOffered, headOffered, submitOrder, transmitOrder, gateOrder, actOrder}
+use Rattle.rule.specs.Orders.{lengthOffered, hasZeroInterval, speedOffered, frameOffered, headOffered, lastBegun, submitOrder, transmitOrder, gateOrder, actOrder}
 
 -- list A, and a submission of it every 1,000 ns
 listA : List Entry
@@ -131,7 +131,7 @@ pub starred-hold : T (hold starred)
 unfolding starred hold listA submissionA gatesOf idle configA runsA number submits after changeOf change waits last cycleNumber sends asks classOf choice longer
     isOpen entryNo octetAt cycleOffered startNo cycleNo firstNo changeInstant lastNo plainStart bentStart plainOctet bentOctet
     raise octetUnder shown shownNow duration nextStart staysOpen qualifies highest frameFor chosen configOf errorsAfter submitted perform
-    lengthOffered hasZeroInterval speedOffered frameOffered headOffered submitOrder transmitOrder lastOctetAt
+    lengthOffered hasZeroInterval speedOffered frameOffered headOffered lastBegun submitOrder transmitOrder lastOctetAt
 starred-hold = tt
 
 -- a table that another crate puts in front of this one holds as a whole

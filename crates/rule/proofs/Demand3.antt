@@ -14,14 +14,14 @@ use Rattle.rule.specs.Machine.{ticks, Outcome, replay, Besides}
 use Rattle.rule.specs.Series.{Call, run, replayLog, tries}
 use Rattle.rule.specs.Machines.{machine}
 use Rattle.rule.specs.TimetableMachine.{timetableMachine}
-use Rattle.rule.specs.History.{ruleOctet, ruleErrors, ruleChanges}
+use Rattle.rule.specs.History.{effective, ruleOctet, ruleErrors, ruleChanges}
 use Rattle.rule.specs.Frames.{gateActs, octetOf, ruleOverruns}
 use Rattle.rule.proofs.Cut.{run-port, run-out, one-outcome, besides-acts}
 use Rattle.rule.proofs.Laws.{timetable-lawful, lawful}
 use Rattle.rule.proofs.Shown.{now-ticks}
 use Rattle.rule.proofs.Gated.{ticks-gates, gateCalls, gated, run-gates, gates-reverse}
 use Rattle.rule.proofs.Track.{tracks-new, tracks-run, tracks-shown}
-use Rattle.rule.proofs.Changes.{run-changes}
+use Rattle.rule.proofs.Replaced.{replaced-changes}
 use Rattle.rule.proofs.Overrun.{run-overruns}
 
 -- a timetable
@@ -32,8 +32,8 @@ pub record TimetableDemand (t₀ s₀ : ℕ) (acts : List (ℕ × GateAct)) (out
   pub joined : out ≡ replayLog timetableMachine acts (left .clock) (newTimetable t₀ s₀)
   -- and, with no timetable in it at all, what the rule reads off the acts: the changes, the octet at the end and at each instant that a step
   -- comes to from there, the error count
-  pub changed : out ≡ ruleChanges s₀ [] t₀ acts (left .clock)
-  pub shows : (n : ℕ) → shownNow (ticks timetableMachine n left) ≡ ruleOctet s₀ (reverse acts) (left .clock + n)
+  pub changed : out ≡ ruleChanges s₀ [] t₀ (reverse (effective (reverse acts))) (left .clock)
+  pub shows : (n : ℕ) → shownNow (ticks timetableMachine n left) ≡ ruleOctet s₀ (effective (reverse acts)) (left .clock + n)
   pub errors : left .errors ≡ ruleErrors (reverse acts) % 2 ^ 64
 
 pub timetable-demand : (t₀ s₀ : ℕ) (cs : List (Call GateAct))
@@ -45,7 +45,7 @@ timetable-demand t₀ s₀ cs =
     record {
       final = run-port timetableMachine timetable-lawful cs (newTimetable t₀ s₀);
       joined = run-out timetableMachine timetable-lawful cs (newTimetable t₀ s₀);
-      changed = run-changes cs (tracks-new t₀ s₀);
+      changed = replaced-changes s₀ t₀ cs;
       shows = λ n. now-ticks n p ∙ tracks-shown k (p .clock + n) (omega arith);
       errors = k .errors;
     }
@@ -54,7 +54,7 @@ timetable-demand t₀ s₀ cs =
 pub record Demand (t₀ s₀ : ℕ) (acts : List (ℕ × Act)) (out : List (ℕ × ℕ)) (port : Port) : Type 0 where
   pub final : port ≡ replay machine acts (port .gates .clock) (newPort t₀ s₀)
   pub joined : out ≡ replayLog machine acts (port .gates .clock) (newPort t₀ s₀)
-  pub changed : out ≡ ruleChanges s₀ [] t₀ (gateActs acts) (port .gates .clock)
+  pub changed : out ≡ ruleChanges s₀ [] t₀ (reverse (effective (gateActs (reverse acts)))) (port .gates .clock)
   pub shows : (n : ℕ) → shownNow (ticks machine n port .gates) ≡ octetOf s₀ (reverse acts) (port .gates .clock + n)
   pub errors : port .gates .errors ≡ ruleErrors (gateActs (reverse acts)) % 2 ^ 64
   pub overruns : (k : ℕ) → k < 8 → getD (port .overruns) k 0 ≡ ruleOverruns s₀ k [] acts (port .gates .clock) % 2 ^ 64
@@ -75,8 +75,8 @@ demand-3 t₀ s₀ cs =
     record {
       final = run-port machine lawful cs (newPort t₀ s₀);
       joined = run-out machine lawful cs (newPort t₀ s₀);
-      changed = d .changed;
-      shows = λ n. ap shownNow (ticks-gates n (o .port)) ∙ d .shows n ∙ ap (λ h. ruleOctet s₀ h (o .port .gates .clock + n)) (sym r);
+      changed = d .changed ∙ ap (λ h. ruleChanges s₀ [] t₀ (reverse (effective h)) (o .port .gates .clock)) (sym r);
+      shows = λ n. ap shownNow (ticks-gates n (o .port)) ∙ d .shows n ∙ ap (λ h. ruleOctet s₀ (effective h) (o .port .gates .clock + n)) (sym r);
       errors = d .errors ∙ ap (λ h. ruleErrors h % 2 ^ 64) (sym r);
       overruns = λ j. run-overruns t₀ s₀ j cs;
     }

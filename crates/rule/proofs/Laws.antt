@@ -4,7 +4,7 @@ use mathlib.Core.Path.{_≡_, refl}
 use Prim.Native.Nat.{suc}
 use Rattle.rule.specs.Timetable.{Timetable, tick}
 use Rattle.rule.specs.Port.{Port, portTick}
-use Rattle.rule.specs.Acts.{GateAct, on, off, standing, submit, submitted, performGates, Act, gates, transmit, perform}
+use Rattle.rule.specs.Acts.{GateAct, on, off, standing, submit, strict, submitted, performGates, Act, gates, transmit, perform}
 use Rattle.rule.specs.Machines.{machine}
 use Rattle.rule.specs.TimetableMachine.{timetableMachine}
 use Rattle.rule.proofs.Cut.{Lawful}
@@ -15,6 +15,7 @@ clock-gates on p = refl
 clock-gates off p = refl
 clock-gates (standing octet) p = refl
 clock-gates (submit x) p = refl
+clock-gates (strict x) p = refl
 
 clock-tick : (p : Timetable) → tick p .clock ≡ suc (p .clock)
 unfolding tick

@@ -13,6 +13,7 @@ pub mod Orders
 pub mod Choice
 pub mod Track
 pub mod Changes
+pub mod Replaced
 pub mod Jump
 pub mod Stretch
 pub mod Overrun

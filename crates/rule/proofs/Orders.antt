@@ -15,8 +15,8 @@ use Rattle.rule.specs.Refusals.{firstOf, accepted}
 use Rattle.rule.specs.Cycle.{cycleOffered}
 use Rattle.rule.specs.Timetable.{Timetable}
 use Rattle.rule.specs.Port.{Port, Frame}
-use Rattle.rule.specs.Acts.{Submission, isSome, submit, transmit}
-use Rattle.rule.specs.Orders.{any, lengthOffered, hasZeroInterval, speedOffered, headOffered, submitOrder, transmitOrder, stepOrder, lookOrder, newOrder, acceptsGates, accepts, acceptsGoal}
+use Rattle.rule.specs.Acts.{Submission, isSome, submit, strict, transmit}
+use Rattle.rule.specs.Orders.{any, lengthOffered, hasZeroInterval, speedOffered, headOffered, lastBegun, submitOrder, transmitOrder, stepOrder, lookOrder, newOrder, acceptsGates, accepts, acceptsGoal}
 
 -- one test; two tests at once
 passed : (b : Bool) (r : Refusal) (rest : Option Refusal) → accepted (cond b (some r) rest) ≡ true → (b ≡ false) × (accepted rest ≡ true)
@@ -31,31 +31,40 @@ pub absent : {A : Type 0} (o : Option A) → isSome o ≡ false → o ≡ none
 absent none e = refl
 absent (some a) e = absurd (true≢false e)
 
-pub record PassedSubmit (x : Submission) (p : Timetable) : Type 0 where
+-- tooLate: what 7 says of the timetable
+pub record PassedSubmit (tooLate : Bool) (x : Submission) (p : Timetable) : Type 0 where
   pub on : p .on ≡ true
-  pub none-waits : isSome (p .waiting) ≡ false
+  pub in-time : tooLate ≡ false
   pub cycle : cycleOffered (x .numerator) (x .denominator) ≡ true
   pub base : x .base ≤ largestInstant
   pub entries : lengthOffered (length (x .list)) ≡ true
   pub intervals : hasZeroInterval (x .list) ≡ false
 
-pub submit-passed : (x : Submission) (p : Timetable) → acceptsGates (submit x) p ≡ true → PassedSubmit x p
-unfolding acceptsGates submitOrder
-submit-passed x p e =
+pub order-submit : (tooLate : Bool) (x : Submission) (p : Timetable) → accepted (firstOf (submitOrder tooLate x p)) ≡ true → PassedSubmit tooLate x p
+unfolding submitOrder
+order-submit tooLate x p e =
     let t₁ = passed (not (p .on)) SwitchedOff _ e in
-    let t₂ = passed (isSome (p .waiting)) ChangeWaits _ (t₁ .1) in
+    let t₂ = passed tooLate ChangeWaits _ (t₁ .1) in
     let t₃ = passed (not (cycleOffered (x .numerator) (x .denominator))) CycleTime _ (t₂ .1) in
     let t₄ = passed (ltb largestInstant (x .base)) AboveLargest _ (t₃ .1) in
     let t₅ = passed (not (lengthOffered (length (x .list)))) ListLength _ (t₄ .1) in
     let t₆ = passed (hasZeroInterval (x .list)) ZeroInterval _ (t₅ .1) in
     record {
       on = not-false (p .on) (t₁ .0);
-      none-waits = t₂ .0;
+      in-time = t₂ .0;
       cycle = not-false (cycleOffered (x .numerator) (x .denominator)) (t₃ .0);
       base = ltb-false largestInstant (x .base) (t₄ .0);
       entries = not-false (lengthOffered (length (x .list))) (t₅ .0);
       intervals = t₆ .0;
     }
+
+pub submit-passed : (x : Submission) (p : Timetable) → acceptsGates (submit x) p ≡ true → PassedSubmit (lastBegun (p .clock) (p .operating) (p .waiting)) x p
+unfolding acceptsGates
+submit-passed x p e = order-submit (lastBegun (p .clock) (p .operating) (p .waiting)) x p e
+
+pub strict-passed : (x : Submission) (p : Timetable) → acceptsGates (strict x) p ≡ true → PassedSubmit (isSome (p .waiting)) x p
+unfolding acceptsGates
+strict-passed x p e = order-submit (isSome (p .waiting)) x p e
 
 pub record PassedTransmit (heads : List ℕ) (speed : ℕ) (f : Option Frame) : Type 0 where
   pub speed-offered : speedOffered speed ≡ true

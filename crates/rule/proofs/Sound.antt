@@ -16,14 +16,14 @@ use Rattle.rule.specs.Cycle.{Config, Valid, cycleOf, cycleOffered, lastN
 use Rattle.rule.specs.Timetable.{Timetable, Waiting, newTimetable, shown, shownNow, operatingAt, waitingAt, due}
 use Rattle.rule.specs.Port.{Port, Frame, forgottenAt, newPort, frameAt, overran, marked, tested, portTick}
 use Rattle.rule.specs.Choice.{duration, nextStart, qualifies, highest, frameFor, chosen}
-use Rattle.rule.specs.Acts.{GateAct, on, off, standing, submit, performGates, Act, gates, transmit, Submission, configOf, submitted, performed, perform}
-use Rattle.rule.specs.Orders.{any, lengthOffered, frameOffered, headOffered, acceptsGates, accepts}
+use Rattle.rule.specs.Acts.{GateAct, on, off, standing, submit, strict, isSome, performGates, Act, gates, transmit, Submission, configOf, submitted, performed, perform}
+use Rattle.rule.specs.Orders.{any, lengthOffered, frameOffered, headOffered, lastBegun, acceptsGates, accepts}
 use Rattle.rule.specs.Machine.{ticks}
 use Rattle.rule.specs.Machines.{machine}
 use Rattle.rule.proofs.Soundness.{SoundConfig, SoundOperating, SoundWaiting, SoundTimetable, SoundFrame, Sound}
 use Rattle.rule.proofs.Cut.{cases}
 use Rattle.rule.proofs.Laws.{timetable-lawful}
-use Rattle.rule.proofs.Orders.{both, PassedSubmit, submit-passed, transmit-passed}
+use Rattle.rule.proofs.Orders.{both, PassedSubmit, submit-passed, strict-passed, transmit-passed}
 use Rattle.rule.proofs.Cycles.{Last, last-no}
 use Rattle.rule.proofs.ClosedForms.{change-near}
 use Rattle.rule.proofs.Choice.{speed-range, duration-some, gap-some}
@@ -116,9 +116,9 @@ cycle-whole n d e =
     let t₂ = both (eqb (n * 1_000_000_000 % d) 0) _ (t₁ .1) in
     omega (arith, div-add-mod' (n * 1_000_000_000) d, eqb-true (n * 1_000_000_000 % d) 0 (t₂ .0))
 
-submission-sound : (x : Submission) (p : Timetable) → PassedSubmit x p → SoundConfig (configOf (p .clock) x)
+submission-sound : (tooLate : Bool) (x : Submission) (p : Timetable) → PassedSubmit tooLate x p → SoundConfig (configOf (p .clock) x)
 unfolding configOf lengthOffered
-submission-sound x p k =
+submission-sound tooLate x p k =
     let r = cycle-range (x .numerator) (x .denominator) (k .cycle) in
     let l = both (leb 1 (length (x .list))) (leb (length (x .list)) largestList) (k .entries) in
     record {
@@ -129,10 +129,10 @@ submission-sound x p k =
       short = r .1;
     }
 
-submission-near : (x : Submission) (p : Timetable) → p .clock ≤ largestInstant → PassedSubmit x p
+submission-near : (tooLate : Bool) (x : Submission) (p : Timetable) → p .clock ≤ largestInstant → PassedSubmit tooLate x p
     → configOf (p .clock) x .start ≤ largestInstant + largestCycle
 unfolding configOf
-submission-near x p h k =
+submission-near tooLate x p h k =
     let r = cycle-range (x .numerator) (x .denominator) (k .cycle) in
     change-near _ (x .base) (p .clock) largestInstant largestCycle (r .0) (r .1) (k .base) h
 
@@ -187,16 +187,19 @@ frame-sound t heads v q (suc n) a b c h =
     })
     (λ _. frame-sound t heads v q n (omega arith) b c h)
 
-pub gates-sound : (a : GateAct) (p : Timetable) → acceptsGates a p ≡ true → SoundTimetable p → SoundTimetable (performGates a p)
+submitted-sound : (tooLate : Bool) (x : Submission) (p : Timetable) → PassedSubmit tooLate x p → SoundTimetable p → SoundTimetable (submitted x p)
 unfolding submitted
+submitted-sound tooLate x p k s =
+    let z = wait-due (p .clock) (p .clock) (p .operating) (record { config = configOf (p .clock) x; since = p .clock }) (omega arith) (s .operating)
+    (submission-sound tooLate x p k) (omega arith) (submission-near tooLate x p (s .clock) k) (s .operating) in
+    record { clock = s .clock; idle = λ z. absurd (true≢false (sym (k .on) ∙ z)); operating = z .0; waiting = z .1 }
+
+pub gates-sound : (a : GateAct) (p : Timetable) → acceptsGates a p ≡ true → SoundTimetable p → SoundTimetable (performGates a p)
 gates-sound on p e s = record { clock = s .clock; idle = λ z. absurd (true≢false z); operating = s .operating; waiting = s .waiting }
 gates-sound off p e s = record { clock = s .clock; idle = λ _. (refl, refl); operating = tt; waiting = tt }
 gates-sound (standing octet) p e s = record { clock = s .clock; idle = s .idle; operating = s .operating; waiting = s .waiting }
-gates-sound (submit x) p e s =
-    let k = submit-passed x p e in
-    let z = wait-due (p .clock) (p .clock) (p .operating) (record { config = configOf (p .clock) x; since = p .clock }) (omega arith) (s .operating)
-    (submission-sound x p k) (omega arith) (submission-near x p (s .clock) k) (s .operating) in
-    record { clock = s .clock; idle = λ z. absurd (true≢false (sym (k .on) ∙ z)); operating = z .0; waiting = z .1 }
+gates-sound (submit x) p e s = submitted-sound (lastBegun (p .clock) (p .operating) (p .waiting)) x p (submit-passed x p e) s
+gates-sound (strict x) p e s = submitted-sound (isSome (p .waiting)) x p (strict-passed x p e) s
 
 pub performed-sound : (a : Act) (p : Port) → accepts a p ≡ true → Sound p → Sound (performed a p)
 unfolding chosen

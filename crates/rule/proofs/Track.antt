@@ -1,5 +1,6 @@
--- The timetable says what the rule reads off the accepted acts: mark, standing octet, what operates and waits, ConfigChangeError (`tracks-run`). In
--- order: one instant more; the octet; an accepted act; any series of calls. Changes and overruns are in `Changes` and `Overrun`.
+-- The timetable says what the rule reads off the accepted acts, less the replaced submissions: mark, standing octet, what operates and waits; and
+-- ConfigChangeError, off all of them (`tracks-run`). In order: one instant more; the octet; the submission that waits taken out; an accepted act; any series
+-- of calls. Changes and overruns are in `Changes`, `Replaced` and `Overrun`.
 -- Assumes nothing.
 use mathlib.Core.Path.{_≡_, refl, ap, ap₂, sym, _∙_}
 use mathlib.Core.Bool.{Bool, true, false, cond, _&&_, true≢false}
@@ -13,34 +14,34 @@ use lib.Dec.{leb, ltb}
 use borrow.Author.Tests.{leb-true, le-leb}
 use Rattle.rule.specs.Cycle.{Config}
 use Rattle.rule.specs.Timetable.{Timetable, Waiting, raise, octetUnder, shown, operatingAt, waitingAt, tick, newTimetable}
-use Rattle.rule.specs.Acts.{GateAct, on, off, standing, submit, isSome, configOf, errorsAfter, submitted, performGates}
+use Rattle.rule.specs.Acts.{GateAct, on, off, standing, submit, strict, Submission, isSome, configOf, errorsAfter, submitted, performGates}
 use Rattle.rule.specs.Orders.{acceptsGates}
 use Rattle.rule.specs.Machine.{ticks, Outcome}
 use Rattle.rule.specs.Series.{Call, step, attempt, run, elapsed}
 use Rattle.rule.specs.TimetableMachine.{timetableMachine}
-use Rattle.rule.specs.History.{History, markOf, standingOf, submissionsOf, octetBy, ruleOctet, operates, ruleErrors}
+use Rattle.rule.specs.History.{History, markAfter, standingAfter, submissionsAfter, markOf, standingOf, submissionsOf, lessBy, lessWaiting, effective, octetBy, ruleOctet, operates, ruleErrors}
 use Rattle.rule.proofs.Cut.{cases}
-use Rattle.rule.proofs.Orders.{submit-passed}
+use Rattle.rule.proofs.Orders.{strict-passed}
 
 -- what operates and what waits at t, by the submissions: the newest operates if its change instant has come, else the one before it does
 
-newest : List Waiting → Option Config
+unfoldable pub newest : List Waiting → Option Config
 newest [] = none
 newest (w ∷ l) = some (w .config)
 
-pub operatingOf : List Waiting → ℕ → Option Config
+unfoldable pub operatingOf : List Waiting → ℕ → Option Config
 operatingOf [] t = none
 operatingOf (w ∷ l) t = cond (leb (w .config .start) t) (some (w .config)) (newest l)
 
-pub waitingOf : List Waiting → ℕ → Option Waiting
+unfoldable pub waitingOf : List Waiting → ℕ → Option Waiting
 waitingOf [] t = none
 waitingOf (w ∷ l) t = cond (leb (w .config .start) t) none (some w)
 
 pub record Tracks (s₀ : ℕ) (h : History) (p : Timetable) : Type 0 where
-  pub mark : p .on ≡ markOf h
-  pub standing : p .standing ≡ standingOf s₀ h
-  pub operating : p .operating ≡ operatingOf (submissionsOf h) (p .clock)
-  pub waiting : p .waiting ≡ waitingOf (submissionsOf h) (p .clock)
+  pub mark : p .on ≡ markOf (effective h)
+  pub standing : p .standing ≡ standingOf s₀ (effective h)
+  pub operating : p .operating ≡ operatingOf (submissionsOf (effective h)) (p .clock)
+  pub waiting : p .waiting ≡ waitingOf (submissionsOf (effective h)) (p .clock)
   pub errors : p .errors ≡ ruleErrors h % 2 ^ 64
 
 -- time goes on by one instant
@@ -69,8 +70,8 @@ unfolding tick
 tracks-tick {h = h} {p} k = record {
   mark = k .mark;
   standing = k .standing;
-  operating = ap₂ (operatingAt (suc (p .clock))) (k .operating) (k .waiting) ∙ next-operating (submissionsOf h) (p .clock);
-  waiting = ap (waitingAt (suc (p .clock))) (k .waiting) ∙ next-waiting (submissionsOf h) (p .clock);
+  operating = ap₂ (operatingAt (suc (p .clock))) (k .operating) (k .waiting) ∙ next-operating (submissionsOf (effective h)) (p .clock);
+  waiting = ap (waitingAt (suc (p .clock))) (k .waiting) ∙ next-waiting (submissionsOf (effective h)) (p .clock);
   errors = k .errors;
 }
 
@@ -93,15 +94,83 @@ octetBy-operating st (w ∷ l) c t h = go (leb (w .config .start) c) refl l
     go false e [] = refl
     go false e (v ∷ l) = refl
 
-pub tracks-shown : {s₀ : ℕ} {h : History} {p : Timetable} → Tracks s₀ h p → (t : ℕ) → p .clock ≤ t → shown p t ≡ ruleOctet s₀ h t
+pub tracks-shown : {s₀ : ℕ} {h : History} {p : Timetable} → Tracks s₀ h p → (t : ℕ) → p .clock ≤ t → shown p t ≡ ruleOctet s₀ (effective h) t
 unfolding shown ruleOctet
 tracks-shown {s₀} {h} {p} k t c =
     (λ i. cond (k .mark i) (octetUnder (k .standing i) (k .operating i) (k .waiting i) t) (k .standing i))
-    ∙ ap (λ n. cond (markOf h) n (standingOf s₀ h)) (octetBy-operating (standingOf s₀ h) (submissionsOf h) (p .clock) t c)
+    ∙ ap (λ n. cond (markOf (effective h)) n (standingOf s₀ (effective h)))
+    (octetBy-operating (standingOf s₀ (effective h)) (submissionsOf (effective h)) (p .clock) t c)
 
--- an act
+-- the submission that waits taken out
 
--- where nothing waits, what operates is the newest submission
+-- of the submissions since the last off
+unfoldable pub unwaiting : ℕ → List Waiting → List Waiting
+unwaiting t [] = []
+unwaiting t (w ∷ l) = cond (leb (w .config .start) t) (w ∷ l) l
+
+module _ (t : ℕ) where
+  pub less-mark : (h : History) → markOf (lessWaiting t h) ≡ markOf h
+  unfolding lessWaiting markOf
+  less-mark [] = refl
+  less-mark (x ∷ h) = go (x .1) (less-mark h)
+    where
+      either : (b : Bool) (a : GateAct) → markAfter a (markOf h) ≡ markOf h → markOf (cond b ((x .0, a) ∷ h) h) ≡ markOf h
+      either true a e = e
+      either false a e = refl
+
+      go : (a : GateAct) → markOf (lessWaiting t h) ≡ markOf h → markOf (lessBy t (x .0) a h (lessWaiting t h)) ≡ markAfter a (markOf h)
+      go on e = refl
+      go off e = refl
+      go (standing o) e = e
+      go (submit y) e = either (leb (configOf (x .0) y .start) t) (submit y) refl
+      go (strict y) e = either (leb (configOf (x .0) y .start) t) (strict y) refl
+
+  pub less-standing : (s₀ : ℕ) (h : History) → standingOf s₀ (lessWaiting t h) ≡ standingOf s₀ h
+  unfolding lessWaiting standingOf
+  less-standing s₀ [] = refl
+  less-standing s₀ (x ∷ h) = go (x .1) (less-standing s₀ h)
+    where
+      either : (b : Bool) (a : GateAct) → standingAfter a (standingOf s₀ h) ≡ standingOf s₀ h → standingOf s₀ (cond b ((x .0, a) ∷ h) h) ≡ standingOf s₀ h
+      either true a e = e
+      either false a e = refl
+
+      go : (a : GateAct) → standingOf s₀ (lessWaiting t h) ≡ standingOf s₀ h
+          → standingOf s₀ (lessBy t (x .0) a h (lessWaiting t h)) ≡ standingAfter a (standingOf s₀ h)
+      go on e = e
+      go off e = refl
+      go (standing o) e = refl
+      go (submit y) e = either (leb (configOf (x .0) y .start) t) (submit y) refl
+      go (strict y) e = either (leb (configOf (x .0) y .start) t) (strict y) refl
+
+  pub less-submissions : (h : History) → submissionsOf (lessWaiting t h) ≡ unwaiting t (submissionsOf h)
+  unfolding lessWaiting submissionsOf unwaiting
+  less-submissions [] = refl
+  less-submissions (x ∷ h) = go (x .1) (less-submissions h)
+    where
+      either : (b : Bool) (a : GateAct) (w : Waiting) → submissionsAfter (x .0) a (submissionsOf h) ≡ w ∷ submissionsOf h
+          → submissionsOf (cond b ((x .0, a) ∷ h) h) ≡ cond b (w ∷ submissionsOf h) (submissionsOf h)
+      either true a w e = e
+      either false a w e = refl
+
+      go : (a : GateAct) → submissionsOf (lessWaiting t h) ≡ unwaiting t (submissionsOf h)
+          → submissionsOf (lessBy t (x .0) a h (lessWaiting t h)) ≡ unwaiting t (submissionsAfter (x .0) a (submissionsOf h))
+      go on e = e
+      go off e = refl
+      go (standing o) e = e
+      go (submit y) e = either (leb (configOf (x .0) y .start) t) (submit y) (record { config = configOf (x .0) y; since = x .0 }) refl
+      go (strict y) e = either (leb (configOf (x .0) y .start) t) (strict y) (record { config = configOf (x .0) y; since = x .0 }) refl
+
+-- what operates is then the newest
+newest-left : (l : List Waiting) (t : ℕ) → operatingOf l t ≡ newest (unwaiting t l)
+unfolding operatingOf unwaiting newest
+newest-left [] t = refl
+newest-left (w ∷ l) t = go (leb (w .config .start) t)
+  where
+    go : (b : Bool) → cond b (some (w .config)) (newest l) ≡ newest (cond b (w ∷ l) l)
+    go true = refl
+    go false = refl
+
+-- where nothing waits, it is the newest itself
 newest-operates : (l : List Waiting) (t : ℕ) → isSome (waitingOf l t) ≡ false → operatingOf l t ≡ newest l
 unfolding operatingOf waitingOf newest
 newest-operates [] t e = refl
@@ -111,19 +180,21 @@ newest-operates (w ∷ l) t e = go (leb (w .config .start) t) e
     go true e = refl
     go false e = absurd (true≢false e)
 
-newest-counts : (l : List Waiting) (t : ℕ) → isSome (waitingOf l t) ≡ false → isSome (operatingOf l t) ≡ operates l t
-unfolding operatingOf waitingOf newest operates
-newest-counts [] t e = refl
-newest-counts (w ∷ []) t e = go (leb (w .config .start) t)
+newest-counts : (l : List Waiting) (t : ℕ) → isSome (operatingOf l t) ≡ operates l t
+unfolding operatingOf newest operates
+newest-counts [] t = refl
+newest-counts (w ∷ []) t = go (leb (w .config .start) t)
   where
     go : (b : Bool) → isSome (cond b (some (w .config)) none) ≡ b
     go true = refl
     go false = refl
-newest-counts (w ∷ v ∷ l) t e = go (leb (w .config .start) t)
+newest-counts (w ∷ v ∷ l) t = go (leb (w .config .start) t)
   where
     go : (b : Bool) → isSome (cond b (some (w .config)) (some (v .config))) ≡ true
     go true = refl
     go false = refl
+
+-- an act
 
 -- a Counter64 is a count modulo 2^64
 pub raise-mod : (n : ℕ) → raise (n % 2 ^ 64) ≡ suc n % 2 ^ 64
@@ -134,25 +205,50 @@ counted-on : (b : Bool) (n : ℕ) → cond b (raise (n % 2 ^ 64)) (n % 2 ^ 64) �
 counted-on true n = raise-mod n
 counted-on false n = refl
 
+-- ConfigChangeError after a submission
+errors-on : {s₀ : ℕ} {h : History} {p : Timetable} (x : Submission) → Tracks s₀ h p
+    → errorsAfter (p .clock) x (p .operating) (p .errors)
+    ≡ cond (ltb (x .base) (p .clock) && operates (submissionsOf (effective h)) (p .clock)) (suc (ruleErrors h)) (ruleErrors h) % 2 ^ 64
+unfolding errorsAfter
+errors-on {h = h} {p} x k =
+    (λ i. errorsAfter (p .clock) x (k .operating i) (k .errors i))
+    ∙ ap (λ b. cond (ltb (x .base) (p .clock) && b) (raise (ruleErrors h % 2 ^ 64)) (ruleErrors h % 2 ^ 64)) (newest-counts (submissionsOf (effective h)) (p .clock))
+    ∙ counted-on (ltb (x .base) (p .clock) && operates (submissionsOf (effective h)) (p .clock)) (ruleErrors h)
+
+-- what operates after it, with what operated before it the newest of the submissions that are left
+operating-on : (t : ℕ) (x : Submission) (o : Option Config) (l : List Waiting) → o ≡ newest l
+    → operatingAt t o (some (record { config = configOf t x; since = t })) ≡ operatingOf (record { config = configOf t x; since = t } ∷ l) t
+unfolding operatingOf
+operating-on t x o l e = ap (λ q. operatingAt t q (some (record { config = configOf t x; since = t }))) e
+
 pub tracks-perform : {s₀ : ℕ} {h : History} {p : Timetable} (a : GateAct) → acceptsGates a p ≡ true → Tracks s₀ h p → Tracks s₀ ((p .clock, a) ∷ h) (performGates a p)
-unfolding markOf standingOf submissionsOf ruleErrors operatingOf waitingOf submitted errorsAfter
+unfolding effective markOf standingOf submissionsOf ruleErrors operatingOf waitingOf submitted
 tracks-perform on e k = record { mark = refl; standing = k .standing; operating = k .operating; waiting = k .waiting; errors = k .errors }
 tracks-perform off e k = record { mark = refl; standing = k .standing; operating = refl; waiting = refl; errors = k .errors }
 tracks-perform (standing o) e k = record { mark = k .mark; standing = refl; operating = k .operating; waiting = k .waiting; errors = k .errors }
-tracks-perform {h = h} {p} (submit x) e k =
-    let none : isSome (waitingOf (submissionsOf h) (p .clock)) ≡ false = ap isSome (sym (k .waiting)) ∙ submit-passed x p e .none-waits in
+tracks-perform {s₀} {h} {p} (submit x) e k =
+    let l : List Waiting = submissionsOf (effective h) in
+    let z = less-submissions (p .clock) (effective h) in
+    record {
+      mark = k .mark ∙ sym (less-mark (p .clock) (effective h));
+      standing = k .standing ∙ sym (less-standing (p .clock) s₀ (effective h));
+      operating = operating-on (p .clock) x (p .operating) _ (k .operating ∙ newest-left l (p .clock) ∙ ap newest (sym z));
+      waiting = refl;
+      errors = errors-on x k;
+    }
+tracks-perform {s₀} {h} {p} (strict x) e k =
+    let l : List Waiting = submissionsOf (effective h) in
+    let none : isSome (waitingOf l (p .clock)) ≡ false = ap isSome (sym (k .waiting)) ∙ strict-passed x p e .in-time in
     record {
       mark = k .mark;
       standing = k .standing;
-      operating = ap (λ o. operatingAt (p .clock) o (some (record { config = configOf (p .clock) x; since = p .clock }))) (k .operating ∙ newest-operates (submissionsOf h) (p .clock) none);
+      operating = operating-on (p .clock) x (p .operating) l (k .operating ∙ newest-operates l (p .clock) none);
       waiting = refl;
-      errors = (λ i. errorsAfter (p .clock) x (k .operating i) (k .errors i))
-          ∙ ap (λ b. cond (ltb (x .base) (p .clock) && b) (raise (ruleErrors h % 2 ^ 64)) (ruleErrors h % 2 ^ 64)) (newest-counts (submissionsOf h) (p .clock) none)
-          ∙ counted-on (ltb (x .base) (p .clock) && operates (submissionsOf h) (p .clock)) (ruleErrors h);
+      errors = errors-on x k;
     }
 
 pub tracks-new : (t s₀ : ℕ) → Tracks s₀ [] (newTimetable t s₀)
-unfolding newTimetable markOf standingOf submissionsOf ruleErrors operatingOf waitingOf
+unfolding newTimetable effective markOf standingOf submissionsOf ruleErrors operatingOf waitingOf
 tracks-new t s₀ = record { mark = refl; standing = refl; operating = refl; waiting = refl; errors = refl }
 
 -- whatever is called: the timetable says what the rule reads off the acts accepted on the way

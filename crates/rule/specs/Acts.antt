@@ -21,10 +21,11 @@ pub record Submission : Type 0 where
   pub base : ℕ
   pub list : List Entry
 
+-- a submission takes the place of what waits (document 02, Item 6), or is strict: document 01's, taken only if nothing waits
 pub data GateAct : Type 0 where
   on off : GateAct
   standing : ℕ → GateAct
-  submit : Submission → GateAct
+  submit strict : Submission → GateAct
 
 pub data Act : Type 0 where
   gates : GateAct → Act
@@ -48,7 +49,7 @@ configOf a x =
 unfoldable pub errorsAfter : ℕ → Submission → Option Config → ℕ → ℕ
 errorsAfter a x o n = cond (ltb (x .base) a && isSome o) (raise n) n
 
--- it waits from the clock on, unless its change instant is now: what is due then happens at once
+-- it waits from the clock on, in the place of what waits, unless its change instant is now: what is due then happens at once
 unfoldable pub submitted : Submission → Timetable → Timetable
 submitted x p =
     let w : Option Waiting = some (record { config = configOf (p .clock) x; since = p .clock }) in
@@ -66,6 +67,7 @@ performGates on p = withGates true (p .standing) (p .operating) (p .waiting) p
 performGates off p = withGates false (p .standing) none none p
 performGates (standing octet) p = withGates (p .on) octet (p .operating) (p .waiting) p
 performGates (submit x) p = submitted x p
+performGates (strict x) p = submitted x p
 
 -- an act on a port itself, and with the overrun test
 abbrev pub performed : Act → Port → Port

@@ -10,7 +10,7 @@ use Rattle.rule.specs.Gates.{isOpen}
 use Rattle.rule.specs.Port.{Frame, lastOctetAt}
 use Rattle.rule.specs.Choice.{staysOpen, chosen}
 use Rattle.rule.specs.Acts.{GateAct, Act, gates, transmit}
-use Rattle.rule.specs.History.{ruleOctet}
+use Rattle.rule.specs.History.{effective, ruleOctet}
 
 abbrev pub PortHistory : Type 0
 PortHistory = List (ℕ × Act)
@@ -24,9 +24,9 @@ unfoldable pub gateActs : List (ℕ × Act) → List (ℕ × GateAct)
 gateActs [] = []
 gateActs (x ∷ l) = gateAct (x .0) (x .1) (gateActs l)
 
--- the octet by the acts of a port
+-- the octet by the acts of a port, less the replaced submissions
 abbrev pub octetOf : ℕ → PortHistory → ℕ → ℕ
-octetOf s₀ h t = ruleOctet s₀ (gateActs h) t
+octetOf s₀ h t = ruleOctet s₀ (effective (gateActs h)) t
 
 -- the frame that an act at t begins
 abbrev pub frameBegun : ℕ → PortHistory → ℕ → Act → Option Frame

@@ -3,7 +3,7 @@
 -- Assumes nothing.
 use mathlib.Core.Bool.{Bool, true, false, cond, not, _&&_}
 use mathlib.Core.List.{List, [], _∷_}
-use mathlib.Core.Option.{Option}
+use mathlib.Core.Option.{Option, none, some}
 use Prim.Native.Nat.{ℕ, _-_}
 use lib.Dec.{leb, ltb, eqb}
 use lib.ListN.{length}
@@ -12,10 +12,10 @@ use Rattle.rule.specs.declared.Refusal.{Refusal}
 use Rattle.rule.specs.declared.Refusal.the-variants.{ZeroInterval, ListLength, SwitchedOff, ChangeWaits, CycleTime, AboveLargest, BeforeClock, StepTooLong, HeadLength, Speed, FrameSending}
 use Rattle.rule.specs.Refusals.{firstOf, accepted}
 use Rattle.rule.specs.Entries.{Entry}
-use Rattle.rule.specs.Cycle.{cycleOffered}
-use Rattle.rule.specs.Timetable.{Timetable}
+use Rattle.rule.specs.Cycle.{Config, cycleOffered, startNo, lastNo}
+use Rattle.rule.specs.Timetable.{Timetable, Waiting}
 use Rattle.rule.specs.Port.{Port, Frame}
-use Rattle.rule.specs.Acts.{GateAct, on, off, standing, submit, Act, gates, transmit, Submission, isSome}
+use Rattle.rule.specs.Acts.{GateAct, on, off, standing, submit, strict, Act, gates, transmit, Submission, isSome}
 
 abbrev pub any : {A : Type 0} → (A → Bool) → List A → Bool
 any f [] = false
@@ -37,10 +37,18 @@ frameOffered n = leb shortestFrame n && leb n longestFrame
 unfoldable pub headOffered : ℕ → Bool
 headOffered n = cond (eqb n 0) true (frameOffered n)
 
--- Submit: 6, 7, 8, 9, 5, 4
-unfoldable pub submitOrder : Submission → Timetable → List (Bool × Refusal)
-submitOrder x p =
-    (not (p .on), SwitchedOff) ∷ (isSome (p .waiting), ChangeWaits) ∷ (not (cycleOffered (x .numerator) (x .denominator)), CycleTime)
+-- the last old cycle has begun under what waits: it starts before P, and has started by t
+unfoldable pub lastBegun : ℕ → Option Config → Option Waiting → Bool
+lastBegun t (some f) (some w) =
+    let s : ℕ = startNo f (lastNo f (w .since) (w .config .start)) in
+    ltb s (w .config .start) && leb s t
+lastBegun t (some f) none = false
+lastBegun t none w = false
+
+-- Submit: 6, 7, 8, 9, 5, 4; what 7 says of the timetable is handed in
+unfoldable pub submitOrder : Bool → Submission → Timetable → List (Bool × Refusal)
+submitOrder tooLate x p =
+    (not (p .on), SwitchedOff) ∷ (tooLate, ChangeWaits) ∷ (not (cycleOffered (x .numerator) (x .denominator)), CycleTime)
     ∷ (ltb largestInstant (x .base), AboveLargest) ∷ (not (lengthOffered (length (x .list))), ListLength)
     ∷ (hasZeroInterval (x .list), ZeroInterval) ∷ []
 
@@ -58,7 +66,8 @@ abbrev pub gateOrder : GateAct → Timetable → List (Bool × Refusal)
 gateOrder on p = []
 gateOrder off p = []
 gateOrder (standing octet) p = []
-gateOrder (submit x) p = submitOrder x p
+gateOrder (submit x) p = submitOrder (lastBegun (p .clock) (p .operating) (p .waiting)) x p
+gateOrder (strict x) p = submitOrder (isSome (p .waiting)) x p
 
 abbrev pub actOrder : Act → Port → List (Bool × Refusal)
 actOrder (gates a) p = gateOrder a (p .gates)

@@ -17,8 +17,6 @@ use Rattle.gatelist.specs.Coding.{entryOf, entriesFrom}
 use Rattle.gatelist.proofs.Coding.{length-from}
 use Rattle.timetable.specs.declared.Times.{Times}
 use Rattle.timetable.specs.Record.{isMarked}
-use Rattle.timetable.specs.Coding.{newWaiting}
-use Rattle.timetable.proofs.Coding.{mark-there}
 use Rattle.submission.specs.Judgement.{Judges}
 
 -- the chain of tests that the code evaluates, from the last to the first
@@ -41,13 +39,13 @@ chain-order false false false false false true z = refl
 chain-order false false false false false false true = refl
 chain-order false false false false false false false = refl
 
-module _ (x : Times) (formed : Bool) (vs : List ℕ) (n numerator denominator base : ℕ) where
+module _ (x : Times) (formed tooLate : Bool) (vs : List ℕ) (n numerator denominator base : ℕ) where
   pub judges : (r : Answer) (zero : Bool) → ((os : List ℕ) → zero ≡ hasZeroInterval (entriesFrom os vs 0 n))
-      → r ≡ chain (not formed) (not (isMarked (x .on))) (isMarked (x .waits)) (not (cycleOffered numerator denominator)) (ltb largestInstant base) (not (lengthOffered n)) zero
-      → Judges x formed vs n numerator denominator base r
+      → r ≡ chain (not formed) (not (isMarked (x .on))) tooLate (not (cycleOffered numerator denominator)) (ltb largestInstant base) (not (lengthOffered n)) zero
+      → Judges x formed tooLate vs n numerator denominator base r
   unfolding submitOrder
   judges r zero z e = record {
     is = λ os extension old new.
-        e ∙ chain-order (not formed) (not (isMarked (x .on))) (isMarked (x .waits)) (not (cycleOffered numerator denominator)) (ltb largestInstant base) (not (lengthOffered n)) zero
-        ∙ sym (rw (mark-there (isMarked (x .waits)) (newWaiting x new), length-from (entryOf os vs) 0 n, ← z os));
+        e ∙ chain-order (not formed) (not (isMarked (x .on))) tooLate (not (cycleOffered numerator denominator)) (ltb largestInstant base) (not (lengthOffered n)) zero
+        ∙ sym (rw (length-from (entryOf os vs) 0 n, ← z os));
   }

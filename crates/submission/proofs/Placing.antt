@@ -1,10 +1,9 @@
--- The record after a submission is that of the timetable after the act (`placed-is`), for a fine record and a submission that is taken. In order: what an
--- accepted submission brings; the record of a timetable that nothing waits in; any fine record.
+-- The record after a submission is that of the timetable after the act (`placed-is`), for a fine record and a submission that is taken. In order: the
+-- record of a timetable; any fine record.
 -- Assumes nothing.
 use mathlib.Core.Path.{_≡_, refl, sym, _∙_}
 use mathlib.Core.Bool.{Bool, true, false, cond}
 use mathlib.Core.List.{[]}
-use mathlib.Core.Option.{none}
 use Prim.Native.Nat.{ℕ, _%_, _≤_}
 use native.Mathlib.Nat.{mod-eq-of-lt}
 use native.Mathlib.Omega.{arith}
@@ -14,10 +13,10 @@ use borrow.Author.Tests.{leb-true}
 use Rattle.rule.specs.Limits.{largestInstant, largestCycle}
 use Rattle.rule.specs.Cycle.{Config, cycleOf}
 use Rattle.rule.specs.Timetable as model
-use Rattle.rule.specs.Acts.{Submission, submit, configOf, errorsAfter, submitted, performGates}
-use Rattle.rule.specs.Orders.{lengthOffered, acceptsGates}
+use Rattle.rule.specs.Acts.{Submission, configOf, errorsAfter, submitted}
+use Rattle.rule.specs.Orders.{lengthOffered}
 use Rattle.rule.proofs.ClosedForms.{change-near}
-use Rattle.rule.proofs.Orders.{both, absent, PassedSubmit, submit-passed}
+use Rattle.rule.proofs.Orders.{both, PassedSubmit}
 use Rattle.rule.proofs.Sound.{cycle-range}
 use Rattle.gatelist.specs.declared.GateList.{GateList}
 use Rattle.gatelist.specs.Coding.{entryOf, listOf, encodeList}
@@ -34,9 +33,9 @@ use Rattle.timetable.proofs.Records.{clock-fine}
 use Rattle.submission.specs.Judgement.{submissionOf}
 use Rattle.submission.specs.Placement.{errorsFor, operatingBy, waitingBy, placedBy, placedTimes, listedIn}
 
--- the record of a timetable that nothing waits in
+-- the record of a timetable
 
-module _ (x : Submission) (m : model.Timetable) (free : m .waiting ≡ none) where
+module _ (x : Submission) (m : model.Timetable) where
   abbrev f : Config
   f = configOf (m .clock) x
 
@@ -52,7 +51,7 @@ module _ (x : Submission) (m : model.Timetable) (free : m .waiting ≡ none) whe
 
   placed-now : leb (f .start) (m .clock) ≡ true → with (operatingBy len (f .cycle) (f .extension) (f .start) n (encode m .times)) ≡ encode (submitted x m)
   unfolding encode submitted encodeList
-  placed-now h = rw (h, free)
+  placed-now h = rw h
 
   placed-later : leb (f .start) (m .clock) ≡ false → with (waitingBy len (f .cycle) (f .extension) (f .start) n (encode m .times)) ≡ encode (submitted x m)
   unfolding encode submitted encodeList
@@ -71,15 +70,12 @@ module _ (x : Submission) (m : model.Timetable) (free : m .waiting ≡ none) whe
 -- any fine record
 
 module _ (g : Timetable) (k : Fine g) (list : GateList) (u : Places list) (numerator denominator extension base : ℕ)
-    (e : acceptsGates (submit (submissionOf (listOf list) numerator denominator extension base)) (decode g) ≡ true) where
+    (tooLate : Bool) (passed : PassedSubmit tooLate (submissionOf (listOf list) numerator denominator extension base) (decode g)) where
   abbrev x : Submission
   x = submissionOf (listOf list) numerator denominator extension base
 
-  passed : PassedSubmit x (decode g)
-  passed = submit-passed x (decode g) e
-
   few : list .len ≤ 128
-  unfolding lengthOffered passed
+  unfolding lengthOffered
   few =
       let l = both (leb 1 (length (listOf list))) (leb (length (listOf list)) 128) (passed .entries) in
       omega (arith, length-from (entryOf (list .octets) (list .intervals)) 0 (list .len), leb-true (length (listOf list)) 128 (l .1))
@@ -92,7 +88,6 @@ module _ (g : Timetable) (k : Fine g) (list : GateList) (u : Places list) (numer
 
   -- the change instant fits 64 bits
   change-fits : changeBy a base c % 18446744073709551616 ≡ changeBy a base c
-  unfolding passed
   change-fits =
       let r = cycle-range numerator denominator (passed .cycle) in
       let z = change-near (record { start = base; cycle = c; extension = 0; list = [] }) base a largestInstant largestCycle (r .0) (r .1) (passed .base) (clock-fine g k) in
@@ -106,9 +101,9 @@ module _ (g : Timetable) (k : Fine g) (list : GateList) (u : Places list) (numer
   unfolding errorsFor errorsAfter decode
   errors-is = sym (rw (mark-there (isMarked (g .times .operates)) (oldConfig (g .times) (listOf (record { octets = g .octets; intervals = g .intervals; len = g .times .len })))))
 
-  pub placed-is : listedIn (cleanedList list) (placedTimes (list .len) numerator denominator extension base (g .times)) g ≡ encode (performGates (submit x) (decode g))
-  unfolding placedTimes configOf passed
+  pub placed-is : listedIn (cleanedList list) (placedTimes (list .len) numerator denominator extension base (g .times)) g ≡ encode (submitted x (decode g))
+  unfolding placedTimes configOf
   placed-is =
       let l = length-from (entryOf (list .octets) (list .intervals)) 0 (list .len) in
       (λ i. listedIn (cleaned-encoded list u few i) (placedBy (sym l i) c extension (start-is i) (errors-is i) (sym (k .whole) i .times)) (sym (k .whole) i))
-      ∙ placed-model x (decode g) (absent (decode g .waiting) (passed .none-waits))
+      ∙ placed-model x (decode g)

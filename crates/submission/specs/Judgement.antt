@@ -1,4 +1,5 @@
--- Document 01, the order of Submit: 14, 6, 7, 8, 9, 5, 4. Only the marks of a timetable have a part in it, and of the list its length and its intervals.
+-- Document 01, the order of Submit: 14, 6, 7, 8, 9, 5, 4. Only the mark of a timetable has a part in it, what 7 says of it, and of the list its length and its
+-- intervals.
 -- Assumes nothing.
 use mathlib.Core.Path.{_≡_}
 use mathlib.Core.Bool.{Bool, not}
@@ -21,6 +22,6 @@ submissionOf l numerator denominator extension base =
     record { numerator = numerator; denominator = denominator; extension = extension; base = base; list = l }
 
 -- the refusal, whatever the octets of the list, the extension and the lists of the timetable are
-pub record Judges (x : Times) (formed : Bool) (vs : List ℕ) (n numerator denominator base : ℕ) (r : Answer) : Type 0 where
+pub record Judges (x : Times) (formed tooLate : Bool) (vs : List ℕ) (n numerator denominator base : ℕ) (r : Answer) : Type 0 where
   pub is : (os : List ℕ) (extension : ℕ) (old new : List Entry) → r ≡ answerOf (firstOf ((not formed, MalformedPort)
-      ∷ submitOrder (submissionOf (entriesFrom os vs 0 n) numerator denominator extension base) (timetableOf x old new)))
+      ∷ submitOrder tooLate (submissionOf (entriesFrom os vs 0 n) numerator denominator extension base) (timetableOf x old new)))

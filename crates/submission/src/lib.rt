@@ -46,28 +46,28 @@ fn length_offered(len: usize) -> bool
     (1 <= len) & (len <= GateList::MAX)
 }
 
-// The order of Submit, 14, 6, 7, 8, 9, 5, 4, for a list whose intervals stand in a lent array.
+// The order of Submit, 14, 6, 7, 8, 9, 5, 4, for a list whose intervals stand in a lent array. The caller says whether 7 refuses it, `late`.
 pub fn judged(
     x: Times,
     formed: bool,
+    late: bool,
     intervals: &[u32; 128],
     len: usize,
     numerator: u32,
     denominator: u32,
     base: u64,
 ) -> Answer
-    ensures { λ r. ⌜ Judges x formed (now (intervals .entry)) len numerator denominator base r ⌝ }
+    ensures { λ r. ⌜ Judges x formed late (now (intervals .entry)) len numerator denominator base r ⌝ }
 {
     let cycle = cycle_offered(numerator, denominator);
     let length = length_offered(len);
     let zero = gatelist::has_zero(intervals, len);
     let off = x.on != 1;
-    let waits = x.waits == 1;
     let last = first(zero, Refusal::ZeroInterval, Answer::Done);
     let listed = first(!length, Refusal::ListLength, last);
     let based = first(LARGEST_INSTANT < base, Refusal::AboveLargest, listed);
     let cycled = first(!cycle, Refusal::CycleTime, based);
-    let waiting = first(waits, Refusal::ChangeWaits, cycled);
+    let waiting = first(late, Refusal::ChangeWaits, cycled);
     let switched = first(off, Refusal::SwitchedOff, waiting);
     first(!formed, Refusal::MalformedPort, switched)
 }
@@ -82,7 +82,7 @@ fn errors_for(x: Times, base: u64) -> u64
     x.errors
 }
 
-// The numbers with a list of a length that operates from an instant, or waits for it.
+// The numbers with a list of a length that operates from an instant, or waits for it in the place of what waits.
 fn placed_by(x: Times, len: usize, cycle: u64, extension: u64, start: u64, errors: u64) -> Times
     ensures { λ r. ⌜ r ≡ placedBy len cycle extension start errors x ⌝ }
 {
@@ -90,10 +90,16 @@ fn placed_by(x: Times, len: usize, cycle: u64, extension: u64, start: u64, error
     if start <= clock {
         return Times {
             operates: 1,
+            waits: 0,
             len,
             cycle,
             extension,
             start,
+            newlen: 0,
+            newcycle: 0,
+            newextension: 0,
+            change: 0,
+            since: 0,
             errors,
             ..x
         };

@@ -1,19 +1,21 @@
--- The starts of cycles as the code computes them: the plain start, the last start, the change instant.
+-- The starts of cycles as the code computes them: the plain start, the last start, whether the last cycle has begun, the change instant.
 -- Assumes nothing.
 use mathlib.Core.Path.{_≡_, refl, ap, sym, _∙_}
-use mathlib.Core.Bool.{Bool, true, false, cond}
+use mathlib.Core.Bool.{Bool, true, false, cond, _&&_}
 use mathlib.Core.List.{List, []}
 use Prim.Native.Nat.{ℕ, _+_, _-_, _*_, _/_, _%_, _≤_, _<_, min, max}
 use native.Mathlib.Nat.{zero-div, zero-mul, mul-le-mul-right, mul-lt-mul-of-pos-right, lt-of-not-le, not-le-of-lt, mod-eq-of-lt}
 use native.Mathlib.Omega.{arith}
-use lib.Dec.{leb, eqb}
-use borrow.Author.Tests.{le-leb, lt-leb, eqb-true, eqb-false}
+use lib.Dec.{leb, ltb, eqb}
+use borrow.Author.Tests.{le-leb, lt-leb, ltb-true, ltb-false, le-ltb, eqb-true, eqb-false}
 use Rattle.rule.specs.Entries.{Entry}
-use Rattle.rule.specs.Cycle.{Config, startNo, lastNo, changeInstant}
+use Rattle.rule.specs.Cycle.{Config, startNo, cycleNo, firstNo, lastNo, changeInstant}
+use Rattle.rule.specs.Orders.{lastBegun}
 use Rattle.rule.proofs.ClosedForms.{last-start, change-closed}
 use Rattle.timetable.specs.declared.Times.{Times}
-use Rattle.timetable.specs.Coding.{oldConfig}
-use Rattle.timetable.specs.Checks.{changeBy}
+use Rattle.timetable.specs.Record.{isMarked}
+use Rattle.timetable.specs.Coding.{present, oldConfig, newWaiting, timetableOf}
+use Rattle.timetable.specs.Checks.{changeBy, begunBy}
 
 -- the plain start: with no cycle, before the first start, after it
 
@@ -73,6 +75,41 @@ module _ (x : Times) (l : List Entry) (before running covers : ℕ) (is : before
       let e : running + x .cycle ≡ startNo (oldConfig x l) (lastNo (oldConfig x l) (x .since) (x .change)) =
       omega (arith, next-of u v (x .cycle) (omega arith)) ∙ closed in
       q ∙ ap (λ n. min n (x .change)) e
+
+-- whether the last cycle has begun: its start may be cut at the change
+
+begun-cut : (s P t last : ℕ) → last ≡ min s P → ltb last P && leb last t ≡ ltb s P && leb s t
+begun-cut s P t last e = go (ltb s P) refl
+  where
+    go : (b : Bool) → ltb s P ≡ b → ltb last P && leb last t ≡ b && leb s t
+    go true h =
+        let k = ltb-true s P h in
+        let z : last ≡ s = omega arith in
+        (λ i. ltb (z i) P && leb (z i) t) ∙ ap (λ b. b && leb s t) h
+    go false h =
+        let k = ltb-false s P h in
+        ap (λ b. b && leb last t) (le-ltb last P (omega arith))
+
+pub begun-is : (x : Times) (last : ℕ) → last ≡ min (startNo (oldConfig x []) (lastNo (oldConfig x []) (x .since) (x .change))) (x .change)
+    → (eqb (x .operates) 1 && eqb (x .waits) 1) && (ltb last (x .change) && leb last (x .clock)) ≡ begunBy x
+unfolding lastBegun
+begun-is x last e = go (eqb (x .operates) 1) (eqb (x .waits) 1)
+  where
+    go : (o w : Bool) → (o && w) && (ltb last (x .change) && leb last (x .clock)) ≡ lastBegun (x .clock) (present o (oldConfig x [])) (present w (newWaiting x []))
+    go true true = begun-cut _ (x .change) (x .clock) last e
+    go true false = refl
+    go false w = refl
+
+-- and it does not depend on the lists
+pub begun-any : (x : Times) (old new : List Entry) → begunBy x ≡ lastBegun (x .clock) (timetableOf x old new .operating) (timetableOf x old new .waiting)
+unfolding lastBegun startNo lastNo cycleNo firstNo
+begun-any x old new = go (isMarked (x .operates)) (isMarked (x .waits))
+  where
+    go : (o w : Bool) → lastBegun (x .clock) (present o (oldConfig x [])) (present w (newWaiting x []))
+        ≡ lastBegun (x .clock) (present o (oldConfig x old)) (present w (newWaiting x new))
+    go true true = refl
+    go true false = refl
+    go false w = refl
 
 -- the change instant
 

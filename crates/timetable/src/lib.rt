@@ -23,6 +23,7 @@ pub use ruling::Span;
 pub use ruling::regime;
 pub use shown::shown_at;
 pub use starts::change_instant;
+pub use starts::last_begun;
 
 // The numbers of a timetable: the clock; the marks, 0 or 1, that it is on (GateEnabled), that a configuration operates, that one waits; the standing octet
 // (AdminGateStates); of what operates the length of its list, its cycle and its extension in nanoseconds and the instant at which its cycles start; of what

@@ -5,7 +5,7 @@ ghost use Prim.Native.Nat.{_+_, _-_, _*_, _/_, _%_, min};
 ghost use Rattle.rule.specs.Entries.{Entry};
 ghost use Rattle.rule.specs.Cycle.{startNo, lastNo};
 ghost use Rattle.timetable.specs.Coding.{oldConfig};
-ghost use Rattle.timetable.specs.Checks.{changeBy};
+ghost use Rattle.timetable.specs.Checks.{changeBy, begunBy};
 use crate::Times;
 use crate::numbers::least;
 use crate::numbers::minus;
@@ -51,6 +51,17 @@ pub fn last_start(x: Times) -> u64
         return least(covers, change);
     }
     next_start(running, cycle, change)
+}
+
+// Whether the last old cycle has begun under what waits: it starts before the change, and has started by the clock.
+pub fn last_begun(x: Times) -> bool
+    ensures { λ r. ⌜ r ≡ begunBy x ⌝ }
+{
+    let both = (x.operates == 1) & (x.waits == 1);
+    let change = x.change;
+    let clock = x.clock;
+    let last = last_start(x);
+    both & ((last < change) & (last <= clock))
 }
 
 // The change instant of a submission: the first of base, base + c, base + 2c and so on that is now or later, modulo 2^64.

@@ -44,11 +44,11 @@ returns c =
     let f₃ = f₄ .before in
     let f₂ = f₃ .before in
     let f₁ = f₂ .before in
-    let z = f₁ .before .before .before in
+    let z = f₁ .before .before in
     let l = z .before in
     let y = l .before in
     let a = y .before .args in
-    judges (a .x) (a .formed) (a .intervals .now) (a .len) (a .numerator) (a .denominator) (a .base) _ (z .has-zero .result)
+    judges (a .x) (a .formed) (a .late) (a .intervals .now) (a .len) (a .numerator) (a .denominator) (a .base) _ (z .has-zero .result)
     (λ os. zero-listed os (a .intervals .now) (a .len) _ (z .has-zero .ensures))
     (rw (c .first7 .ensures, f₆ .first6 .ensures, f₅ .first5 .ensures, f₄ .first4 .ensures, f₃ .first3 .ensures, f₂ .first2 .ensures, f₁ .first .ensures, l .length-offered .ensures, y .cycle-offered .ensures))
 

@@ -6,8 +6,8 @@
  * The fields may hold any bits, the marks any octet: a record that is not well formed is refused with 14, and left as it is. A record may be laid out by hand,
  * or copied; what the octets between the fields hold does not matter.
  *
- * What the archive needs: SSE2, and 288 octets of stack. A kernel that leaves the SSE registers to its tasks must save them around a call. It calls nothing,
- * memcpy neither: no record is copied. Its code is position-independent, and it has no data that is written.
+ * What the archive needs: SSE2, and 696 octets of stack, the last 16 below the stack pointer. A kernel that leaves the SSE registers to its tasks must save
+ * them around a call. It calls nothing, memcpy neither: no record is copied. Its code is position-independent, and it has no data that is written.
  * A call keeps no pointer, allocates nothing, and returns for every input. */
 #ifndef KURFANDAZ_PORT_H
 #define KURFANDAZ_PORT_H
@@ -46,8 +46,8 @@ struct kurfandaz_frame {
     uint8_t class_;  /* its class, 0 to 7 */
     uint8_t counted; /* mark: its overrun has been counted */
     uint64_t start;  /* the instant at which it began */
-    uint64_t last;   /* the instant of its last octet, after start and before end */
-    uint64_t end;    /* the instant at which the next may start, and it is forgotten */
+    uint64_t last;   /* the instant at which its last octet is out, after start and before end */
+    uint64_t end;    /* the instant from which on the next may start, and at which it is forgotten */
 };
 
 /* The numbers of a timetable. Those of a configuration that is absent are all 0. */
@@ -91,8 +91,8 @@ struct kurfandaz_answer {
     uint8_t chosen; /* 1 if a frame was chosen */
     uint8_t class_; /* its class */
     uint64_t start; /* the instant at which it begins: the clock */
-    uint64_t last;  /* the instant of its last octet */
-    uint64_t end;   /* the instant at which the next may start */
+    uint64_t last;  /* the instant at which its last octet is out */
+    uint64_t end;   /* the instant from which on the next may start */
 };
 
 /* The layout on which the archive counts. */

@@ -6,17 +6,13 @@ use mathlib.Core.List.{List}
 use Prim.Native.Nat.{ℕ}
 use Rattle.rule.specs.Refusals.{numberOf}
 use Rattle.rule.specs.Acts.{transmit, performed}
-use Rattle.timetable.specs.declared.Timetable.{Timetable}
-use Rattle.frames.specs.declared.Frame as stored
-use Rattle.frames.specs.declared.Decided.{Decided}
 use Rattle.frames.specs.declared.Choice.{Choice}
 use Rattle.frames.specs.declared.Choice.the-variants.{Frame, Nothing, Refused}
-use Rattle.frames.specs.Decision.{choiceOf, Decides}
+use Rattle.frames.specs.Decision.{choiceOf}
 use Rattle.port.specs.declared.Port.{Port}
 use Rattle.port.specs.Coding.{decode}
 use Rattle.port.specs.Acts.{declines, after}
 use Rattle.driver.specs.declared.Answer.{Answer}
-use Rattle.driver.specs.declared.Framed.{Framed}
 
 -- an answer in numbers; no two answers have the same
 abbrev pub answerFor : Choice → Answer
@@ -32,10 +28,3 @@ answerTo heads speed p = answerFor (choiceOf (declines (transmit heads speed) p)
 pub record Lends (heads : List ℕ) (speed : ℕ) (p : Port) (r : Answer) (q : Port) : Type 0 where
   pub answer : r ≡ answerTo heads speed p
   pub port : q ≡ after (transmit heads speed) p
-
--- the answer with the frame to be stored, by a decision on a timetable and a frame
-pub record Frames (heads : List ℕ) (speed : ℕ) (g : Timetable) (f : stored.Frame) (r : Framed) : Type 0 where
-  pub decided : Decided
-  pub decides : Decides heads speed g f decided
-  pub answer : r .answer ≡ answerFor (decided .answer)
-  pub frame : r .frame ≡ decided .frame

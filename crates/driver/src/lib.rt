@@ -1,7 +1,8 @@
 // The driver's call: its one port record is lent, and a transmit on it stores the frame there. A refused call, and one that finds nothing to send, leave
 // every octet of the record as it is. Exported to C: include/port.h has the record and what a caller must keep.
 ghost use mathlib.Core.Path.{_≡_};
-ghost use Rattle.driver.specs.Lent.{answerFor, Frames, Lends};
+ghost use Rattle.driver.specs.Lent.{answerFor, Lends};
+ghost use Rattle.driver.specs.Framing.{Frames};
 use frames::Choice;
 use frames::Frame;
 use frames::decide;

@@ -7,14 +7,15 @@ use mathlib.Core.Option.{Option, none, some}
 use Prim.Native.Nat.{ℕ, suc, _+_, _≤_, _<_}
 use native.Mathlib.Numerals.{add-one}
 use native.Mathlib.Omega.{arith}
-use lib.Dec.{eqb, leb}
+use lib.Dec.{eqb}
 use lib.ListN.{length, getD, drop, drop-of-length-le}
 use lib.Seq.{drop-cons}
 use Rattle.rule.specs.declared.Answer.{Answer}
 use Rattle.rule.specs.declared.Answer.the-variants as answer
 use Rattle.rule.specs.declared.Refusal.{Refusal}
 use Rattle.rule.specs.declared.Refusal.the-variants.{MalformedPort, Speed, FrameSending, HeadLength}
-use Rattle.rule.specs.Refusals.{firstOf, firstAnswer, answerOf, accepted}
+use Rattle.rule.specs.Refusals.{firstOf, accepted}
+use Rattle.rule.specs.Answers.{firstAnswer, answerOf}
 use Rattle.rule.specs.Orders.{any, speedOffered, frameOffered, headOffered, transmitOrder}
 use Rattle.rule.proofs.Orders.{both, order-passed}
 use Rattle.rule.proofs.Sound.{heads-short}
@@ -26,9 +27,10 @@ use Rattle.timetable.proofs.Coding.{mark-there}
 use Rattle.frames.specs.declared.Frame.{Frame}
 use Rattle.frames.specs.declared.Choice.{Choice}
 use Rattle.frames.specs.declared.Choice.the-variants as choice
-use Rattle.frames.specs.Frame.{sentFrame, decodeFrame, encodeFrame, frameFormed, FineFrame}
+use Rattle.frames.specs.Frame.{sentFrame, decodeFrame, encodeFrame, frameFormed}
+use Rattle.frames.specs.Deciding.{FineFrame, sendDeclines, Decides}
 use Rattle.frames.specs.Choosing.{Offered, begun}
-use Rattle.frames.specs.Decision.{choiceOf, sendDeclines, Decides}
+use Rattle.frames.specs.Decision.{choiceOf}
 use Rattle.frames.proofs.Frames.{frame-decoded, frame-fine}
 
 -- the tests

@@ -16,7 +16,8 @@ use Rattle.timetable.specs.Record.{isMarked, markOk, either}
 use Rattle.timetable.specs.Coding.{present}
 use Rattle.timetable.proofs.Coding.{marked-back, mark-kept, mark-formed, one-of}
 use Rattle.frames.specs.declared.Frame.{Frame}
-use Rattle.frames.specs.Frame.{sentFrame, decodeFrame, encodeFrame, frameOk, frameNone, frameFormed, FineFrame}
+use Rattle.frames.specs.Frame.{sentFrame, decodeFrame, encodeFrame, frameOk, frameNone, frameFormed}
+use Rattle.frames.specs.Deciding.{FineFrame}
 
 pub frame-decoded : (o : Option model.Frame) → decodeFrame (encodeFrame o) ≡ o
 unfolding decodeFrame

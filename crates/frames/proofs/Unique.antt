@@ -2,7 +2,7 @@
 -- with the values of an accepted call, tells an answer from every other (`choice-told`, `duration-told`).
 -- Assumes nothing.
 use mathlib.Core.Path.{_≡_, refl, ap, sym, _∙_}
-use mathlib.Core.List.{List, [], _∷_}
+use mathlib.Core.List.{List, _∷_}
 use mathlib.Core.Option.{none, some}
 use Prim.Native.Nat.{ℕ}
 use native.Mathlib.Omega.{arith}
@@ -16,7 +16,8 @@ use Rattle.frames.specs.declared.Choice.the-variants as choice
 use Rattle.frames.specs.declared.Decided.{Decided}
 use Rattle.frames.specs.declared.FrameTime.{FrameTime}
 use Rattle.frames.specs.declared.FrameTime.the-variants as time
-use Rattle.frames.specs.Decision.{choiceNumber, choiceValues, Decides}
+use Rattle.frames.specs.Decision.{choiceNumber, choiceValues}
+use Rattle.frames.specs.Deciding.{Decides}
 use Rattle.frames.specs.Lengths.{Lasts, durationNumber, durationValues}
 
 pub decides-unique : (heads : List ℕ) (speed : ℕ) (g : Timetable) (f : Frame) (r s : Decided) → Decides heads speed g f r → Decides heads speed g f s → r ≡ s

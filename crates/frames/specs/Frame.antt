@@ -1,14 +1,12 @@
 -- The frame's record stands for document 01's frame being sent; and the sentence on 14, as far as it concerns the frame. An absent frame is all zeros; a
 -- mark is 0 or 1.
 -- Assumes nothing.
-use mathlib.Core.Path.{_≡_}
 use mathlib.Core.Bool.{Bool, _&&_}
 use mathlib.Core.Option.{Option, none, some}
 use Prim.Native.Nat.{ℕ, _-_}
 use lib.Dec.{leb, ltb, eqb}
 use Rattle.rule.specs.Limits.{longestSpan}
 use Rattle.rule.specs.Port as model
-use Rattle.rule.proofs.Soundness.{SoundFrame}
 use Rattle.timetable.specs.Record.{either, markOk, isMarked}
 use Rattle.timetable.specs.Coding.{present, markOf}
 use Rattle.frames.specs.declared.Frame.{Frame}
@@ -41,8 +39,3 @@ frameNone f = eqb (f .class) 0 && (eqb (f .start) 0 && (eqb (f .last) 0 && (eqb 
 
 unfoldable pub frameFormed : Frame → ℕ → Bool
 frameFormed f t = (markOk (f .present) && markOk (f .counted)) && either (isMarked (f .present)) (frameOk f t) (frameNone f)
-
--- a record that is the encoding of a sound frame
-pub record FineFrame (f : Frame) (t : ℕ) : Type 0 where
-  pub whole : encodeFrame (decodeFrame f) ≡ f
-  pub sound : SoundFrame t (decodeFrame f)

@@ -2,4 +2,5 @@ pub mod Frame
 pub mod Ahead
 pub mod Choosing
 pub mod Decision
+pub mod Deciding
 pub mod Lengths

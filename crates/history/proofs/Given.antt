@@ -30,7 +30,7 @@ use Rattle.port.proofs.Numbers.{number-of, answer-told, lookedOf, looked-number
 use Rattle.driver.specs.declared.Answer as driver
 use Rattle.driver.specs.Lent.{answerFor, answerTo}
 use Rattle.history.specs.Calls.{Call, act, lend, step, look, room, leaves, reports, asked, attempted, performed, run}
-use Rattle.history.specs.Outcomes.{HandedBy, Handed, AllowedBy, Allowed, StepOutcome, LentOutcome, portBy, next, paired, written, isDone, isDecided, takenBy, taken, done, Event, callsOf, Kept, outcome, tries}
+use Rattle.history.specs.Outcomes.{Handed, Allowed, StepOutcome, LentOutcome, next, paired, written, isDone, isDecided, taken, done, Event, callsOf, Kept, outcome, tries}
 
 -- what a step wrote can be read back
 
@@ -79,13 +79,10 @@ step-written p goal instants octets r k =
 
 -- each call
 
-port-by : (a : rule.Act) (p : Port) (r : HandedBy a) → AllowedBy a p r → portBy a r ≡ after a p
-port-by (rule.gates a) p r k = k .port
-port-by (rule.transmit heads speed) p r k = k .port
-
 pub next-is : (c : Call) (p : Port) (r : Handed c) → Allowed c p r → next c p r ≡ leaves c p
 unfolding leaves
-next-is (act a) p r k = port-by a p r k
+next-is (act (rule.gates a)) p r k = k .port
+next-is (act (rule.transmit heads speed)) p r k = k .port
 next-is (lend heads speed) p r k = k .port
 next-is (step goal instants octets) p r k = k .port
 next-is (look t) p r k = refl
@@ -112,7 +109,7 @@ lent-as none none = refl
 lent-as none (some f) = refl
 lent-as (some r) f = ne-eqb (numberOf r) 0 (number-some r)
 
-taken-by : (a : rule.Act) (p : Port) (r : HandedBy a) → AllowedBy a p r → takenBy a r ≡ accepted (declines a p)
+taken-by : (a : rule.Act) (p : Port) (r : Handed (act a)) → Allowed (act a) p r → taken (act a) r ≡ accepted (declines a p)
 taken-by (rule.gates a) p r k =
     let d : Option Refusal = declines (rule.gates a) p in
     ap isDone (answer-told (r .answer) (answerOf d) (k .number ∙ sym (number-of d))) ∙ done-as d
@@ -172,7 +169,7 @@ outcome-is p (e ∷ es) k =
 
 -- every call can keep its contract, on any record
 
-handedBy : (a : rule.Act) → Port → HandedBy a
+handedBy : (a : rule.Act) → Port → Handed (act a)
 handedBy (rule.gates a) p = record { answer = answerOf (declines (rule.gates a) p); port = after (rule.gates a) p }
 handedBy (rule.transmit heads speed) p =
     let a : rule.Act = rule.transmit heads speed in
@@ -190,7 +187,7 @@ handed (step goal instants octets) p =
     }
 handed (look t) p = lookedOf (lookDeclines t p) (shown (decode p .gates) t)
 
-by-allowed : (a : rule.Act) (p : Port) → AllowedBy a p (handedBy a p)
+by-allowed : (a : rule.Act) (p : Port) → Allowed (act a) p (handedBy a p)
 unfolding handedBy
 by-allowed (rule.gates a) p = record { number = number-of (declines (rule.gates a) p); port = refl }
 by-allowed (rule.transmit heads speed) p =

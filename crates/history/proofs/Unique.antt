@@ -9,10 +9,10 @@ use Rattle.port.specs.declared.Port.{Port}
 use Rattle.port.proofs.Unique.{performs-unique, transmits-unique, steps-unique, looks-unique}
 use Rattle.driver.proofs.Outcome.{lends-unique}
 use Rattle.history.specs.Calls.{Call, act, lend, step, look, run}
-use Rattle.history.specs.Outcomes.{HandedBy, Handed, AllowedBy, Allowed, Event, callsOf, Kept, outcome}
+use Rattle.history.specs.Outcomes.{Handed, Allowed, Event, callsOf, Kept, outcome}
 use Rattle.history.proofs.Given.{outcome-is}
 
-by-unique : (a : rule.Act) (p : Port) (r s : HandedBy a) → AllowedBy a p r → AllowedBy a p s → r ≡ s
+by-unique : (a : rule.Act) (p : Port) (r s : Handed (act a)) → Allowed (act a) p r → Allowed (act a) p s → r ≡ s
 by-unique (rule.gates a) p r s k l = performs-unique (rule.gates a) p r s k l
 by-unique (rule.transmit heads speed) p r s k l = transmits-unique heads speed p r s k l
 

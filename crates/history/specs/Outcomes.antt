@@ -38,34 +38,25 @@ pub record LentOutcome : Type 0 where
   pub port : Port
 
 -- what a call hands back
-abbrev pub HandedBy : rule.Act → Type 0
-HandedBy (rule.gates a) = Acted
-HandedBy (rule.transmit heads speed) = Transmitted
-
 abbrev pub Handed : Call → Type 0
-Handed (act a) = HandedBy a
+Handed (act (rule.gates a)) = Acted
+Handed (act (rule.transmit heads speed)) = Transmitted
 Handed (lend heads speed) = LentOutcome
 Handed (step goal instants octets) = StepOutcome
 Handed (look t) = Looked
 
 -- its contract, on a record
-abbrev pub AllowedBy : (a : rule.Act) → Port → HandedBy a → Type 0
-AllowedBy (rule.gates a) p r = Performs (rule.gates a) p r
-AllowedBy (rule.transmit heads speed) p r = Transmits heads speed p r
-
 abbrev pub Allowed : (c : Call) → Port → Handed c → Type 0
-Allowed (act a) p r = AllowedBy a p r
+Allowed (act (rule.gates a)) p r = Performs (rule.gates a) p r
+Allowed (act (rule.transmit heads speed)) p r = Transmits heads speed p r
 Allowed (lend heads speed) p r = Lends heads speed p (r .answer) (r .port)
 Allowed (step goal instants octets) p r = Steps p goal instants (r .instants) octets (r .octets) (r .result)
 Allowed (look t) p r = Looks p t r
 
 -- the record for the next call
-abbrev pub portBy : (a : rule.Act) → HandedBy a → Port
-portBy (rule.gates a) r = r .port
-portBy (rule.transmit heads speed) r = r .port
-
 abbrev pub next : (c : Call) → Port → Handed c → Port
-next (act a) p r = portBy a r
+next (act (rule.gates a)) p r = r .port
+next (act (rule.transmit heads speed)) p r = r .port
 next (lend heads speed) p r = r .port
 next (step goal instants octets) p r = r .result .port
 next (look t) p r = p
@@ -94,12 +85,9 @@ isDecided (choice.Frame class start last end) = true
 isDecided choice.Nothing = true
 isDecided (choice.Refused r) = false
 
-abbrev pub takenBy : (a : rule.Act) → HandedBy a → Bool
-takenBy (rule.gates a) r = isDone (r .answer)
-takenBy (rule.transmit heads speed) r = isDecided (r .answer)
-
 abbrev pub taken : (c : Call) → Handed c → Bool
-taken (act a) r = takenBy a r
+taken (act (rule.gates a)) r = isDone (r .answer)
+taken (act (rule.transmit heads speed)) r = isDecided (r .answer)
 taken (lend heads speed) r = eqb (r .answer .number) 0
 taken (step goal instants octets) r = false
 taken (look t) r = false

@@ -35,7 +35,8 @@ use Rattle.port.specs.declared.StepAnswer.the-variants as stepped
 use Rattle.port.specs.declared.Looked.{Looked}
 use Rattle.port.specs.declared.Looked.the-variants as looked
 use Rattle.port.specs.Record.{wellFormed}
-use Rattle.port.specs.Coding.{decode, encode, Fine}
+use Rattle.port.specs.Coding.{decode, encode}
+use Rattle.port.specs.Checks.{Fine}
 use Rattle.port.specs.Answers.{steppedNumber, lookedOctet, lookedNumber}
 use Rattle.port.specs.Acts.{declines, after, Performs, Makes, lookDeclines, Looks}
 use Rattle.port.specs.Step.{stepDeclines}

@@ -27,7 +27,8 @@ use Rattle.rule.proofs.Sound.{sound-ticks}
 use Rattle.port.specs.declared.Port.{Port}
 use Rattle.port.specs.declared.Stepped.{Stepped}
 use Rattle.port.specs.declared.StepAnswer.the-variants as stepAnswer
-use Rattle.port.specs.Coding.{decode, encode, Fine}
+use Rattle.port.specs.Coding.{decode, encode}
+use Rattle.port.specs.Checks.{Fine}
 use Rattle.port.specs.Answers.{steppedNumber, writtenOf}
 use Rattle.course.specs.Columns.{instantsOf, octetsOf, into}
 use Rattle.port.specs.Step.{stepDeclines, passes, reported, afterStep, StepsBy, Steps}

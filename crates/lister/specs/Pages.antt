@@ -13,7 +13,8 @@ use Rattle.rule.specs.Port as model
 use Rattle.rule.specs.Machine.{ticks, log}
 use Rattle.rule.specs.Machines.{machine}
 use Rattle.port.specs.declared.Port.{Port}
-use Rattle.port.specs.Coding.{decode, encode, Fine}
+use Rattle.port.specs.Coding.{decode, encode}
+use Rattle.port.specs.Checks.{Fine}
 use Rattle.course.specs.Columns.{into}
 use Rattle.port.specs.Step.{stepDeclines}
 use Rattle.lister.specs.declared.Listed.{Listed}

@@ -23,7 +23,8 @@ use Rattle.port.specs.declared.Port.{Port}
 use Rattle.port.specs.declared.Acted.{Acted}
 use Rattle.port.specs.declared.Looked.{Looked}
 use Rattle.port.specs.Record.{wellFormed}
-use Rattle.port.specs.Coding.{decode, encode, Fine}
+use Rattle.port.specs.Coding.{decode, encode}
+use Rattle.port.specs.Checks.{Fine}
 use Rattle.port.specs.Acts.{declines, after, Performs, lookDeclines, Looks, Makes}
 use Rattle.port.proofs.Numbers.{number-of, answer-told, lookedOf, looked-number, looked-octet, looked-told}
 use Rattle.port.proofs.Coding.{decode-encode, formed}

@@ -24,7 +24,8 @@ use Rattle.frames.proofs.Unique.{choice-told}
 use Rattle.port.specs.declared.Port.{Port}
 use Rattle.port.specs.declared.Transmitted.{Transmitted}
 use Rattle.port.specs.Record.{wellFormed}
-use Rattle.port.specs.Coding.{decode, Fine}
+use Rattle.port.specs.Coding.{decode}
+use Rattle.port.specs.Checks.{Fine}
 use Rattle.port.specs.Acts.{declines}
 use Rattle.port.specs.Transmit.{Transmits}
 use Rattle.port.proofs.Numbers.{choice-number}

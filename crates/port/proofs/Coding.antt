@@ -10,11 +10,13 @@ use Rattle.timetable.specs.Record.{timetableFormed}
 use Rattle.timetable.specs.Coding as timetable
 use Rattle.timetable.specs.Checks as checks
 use Rattle.timetable.proofs.Coding as timed
-use Rattle.frames.specs.Frame.{frameFormed, FineFrame}
+use Rattle.frames.specs.Frame.{frameFormed}
+use Rattle.frames.specs.Deciding.{FineFrame}
 use Rattle.frames.proofs.Frames.{frame-decoded, frame-fine, frame-formed}
 use Rattle.port.specs.declared.Port.{Port}
 use Rattle.port.specs.Record.{wellFormed}
-use Rattle.port.specs.Coding.{decode, encode, Fine, Checked}
+use Rattle.port.specs.Coding.{decode, encode}
+use Rattle.port.specs.Checks.{Fine, Checked}
 
 pub decode-encode : (m : model.Port) → decode (encode m) ≡ m
 unfolding decode encode

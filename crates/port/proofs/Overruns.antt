@@ -17,7 +17,8 @@ use Rattle.frames.specs.declared.Frame.{Frame}
 use Rattle.timetable.specs.Coding.{present}
 use Rattle.frames.specs.Frame.{sentFrame, decodeFrame, encodeFrame}
 use Rattle.port.specs.declared.Port.{Port}
-use Rattle.port.specs.Coding.{decode, encode, Fine}
+use Rattle.port.specs.Coding.{decode, encode}
+use Rattle.port.specs.Checks.{Fine}
 use Rattle.port.specs.Updates.{markedFrame, countedFor}
 use Rattle.port.proofs.Coding.{gates-fine, frame-part}
 use Rattle.port.proofs.Sending.{marked-is, counted-is}

@@ -22,9 +22,10 @@ use Rattle.timetable.specs.Coding as timetable
 use Rattle.port.specs.declared.Port.{Port}
 use Rattle.port.specs.declared.Acted.{Acted}
 use Rattle.port.specs.Record.{wellFormed}
-use Rattle.port.specs.Coding.{decode, encode, Fine}
-use Rattle.port.specs.Acts.{declines, after, Performs, refusedWith, doneWith, Makes}
-use Rattle.port.specs.Updates.{withGates}
+use Rattle.port.specs.Coding.{decode, encode}
+use Rattle.port.specs.Checks.{Fine}
+use Rattle.port.specs.Acts.{declines, after, Performs, Makes}
+use Rattle.port.specs.Updates.{refusedWith, doneWith, withGates}
 use Rattle.port.proofs.Numbers.{number-of}
 use Rattle.port.proofs.Coding.{decode-encode, encoded-fine}
 use Rattle.port.proofs.Overruns.{tested-none}

@@ -10,7 +10,8 @@ use borrow.Author.Tests.{le-leb}
 use Rattle.rule.specs.Port as model
 use Rattle.rule.proofs.Soundness.{SoundFrame}
 use Rattle.frames.specs.declared.Frame.{Frame}
-use Rattle.frames.specs.Frame.{decodeFrame, noFrame, encodeFrame, FineFrame}
+use Rattle.frames.specs.Frame.{decodeFrame, noFrame, encodeFrame}
+use Rattle.frames.specs.Deciding.{FineFrame}
 use Rattle.port.specs.Updates.{markedFrame, countedFor, forgottenFrame}
 
 marked-model : (b : Bool) (o : Option model.Frame) → markedFrame b (encodeFrame o) ≡ encodeFrame (model.marked b o)

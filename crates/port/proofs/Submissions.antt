@@ -28,7 +28,8 @@ use Rattle.submission.specs.Placement.{placedTimes, listedIn}
 use Rattle.submission.proofs.Placing.{placed-is}
 use Rattle.port.specs.declared.Port.{Port}
 use Rattle.port.specs.Record.{wellFormed}
-use Rattle.port.specs.Coding.{decode, encode, Fine}
+use Rattle.port.specs.Coding.{decode, encode}
+use Rattle.port.specs.Checks.{Fine}
 use Rattle.port.specs.Acts.{declines, submission}
 use Rattle.port.specs.Updates.{withGates, submitAct, lateFor}
 use Rattle.port.proofs.Coding.{gates-fine}

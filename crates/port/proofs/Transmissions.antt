@@ -17,10 +17,12 @@ use Rattle.frames.specs.declared.Frame.{Frame}
 use Rattle.frames.specs.declared.Decided.{Decided}
 use Rattle.frames.specs.Frame.{encodeFrame}
 use Rattle.frames.specs.Choosing.{begun}
-use Rattle.frames.specs.Decision.{choiceOf, choiceNumber, choiceValues, sendDeclines, Decides}
+use Rattle.frames.specs.Decision.{choiceOf, choiceNumber, choiceValues}
+use Rattle.frames.specs.Deciding.{sendDeclines, Decides}
 use Rattle.port.specs.declared.Port.{Port}
 use Rattle.port.specs.Record.{wellFormed}
-use Rattle.port.specs.Coding.{decode, encode, Fine}
+use Rattle.port.specs.Coding.{decode, encode}
+use Rattle.port.specs.Checks.{Fine}
 use Rattle.port.specs.Acts.{declines, after}
 use Rattle.port.specs.Transmit.{Stores}
 use Rattle.port.specs.Updates.{withFrame}

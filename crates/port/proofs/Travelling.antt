@@ -38,7 +38,8 @@ use Rattle.course.specs.Travel.{travelDeclines, Travels}
 use Rattle.course.specs.Columns.{into, instantsOf, octetsOf}
 use Rattle.course.proofs.WaysOut.{travel-accepted, Arrives, travels-refused, travels-arrives}
 use Rattle.frames.specs.declared.Frame.{Frame}
-use Rattle.frames.specs.Frame.{decodeFrame, encodeFrame, frameFormed, FineFrame}
+use Rattle.frames.specs.Frame.{decodeFrame, encodeFrame, frameFormed}
+use Rattle.frames.specs.Deciding.{FineFrame}
 use Rattle.frames.proofs.Frames.{frame-fine}
 use Rattle.port.specs.declared.Port.{Port}
 use Rattle.port.specs.declared.StepAnswer.the-variants as stepped

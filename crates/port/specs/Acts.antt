@@ -6,7 +6,6 @@ use mathlib.Core.Bool.{Bool, cond, not}
 use mathlib.Core.List.{List, _∷_}
 use mathlib.Core.Option.{Option}
 use Prim.Native.Nat.{ℕ}
-use Rattle.rule.specs.declared.Answer.the-variants as answer
 use Rattle.rule.specs.declared.Refusal.{Refusal}
 use Rattle.rule.specs.declared.Refusal.the-variants.{MalformedPort}
 use Rattle.rule.specs.Refusals.{firstOf, accepted, numbered, answerNumber}
@@ -43,13 +42,6 @@ pub record Performs (a : Act) (p : Port) (r : Acted) : Type 0 where
 abbrev pub submission : GateList → ℕ → ℕ → ℕ → ℕ → Submission
 submission list numerator denominator extension base =
     record { numerator = numerator; denominator = denominator; extension = extension; base = base; list = listOf list }
-
--- an answer with the port that is handed back
-abbrev pub doneWith : Port → Acted
-doneWith p = record { answer = answer.Done; port = p }
-
-abbrev pub refusedWith : Refusal → Port → Acted
-refusedWith r p = record { answer = answer.Refused r; port = p }
 
 -- a look
 

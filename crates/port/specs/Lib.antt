@@ -1,5 +1,6 @@
 pub mod Record
 pub mod Coding
+pub mod Checks
 pub mod Answers
 pub mod Acts
 pub mod Updates

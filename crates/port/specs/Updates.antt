@@ -14,7 +14,10 @@ use Rattle.timetable.specs.Record.{isMarked}
 use Rattle.timetable.specs.Checks.{begunBy}
 use Rattle.frames.specs.declared.Frame.{Frame}
 use Rattle.frames.specs.Frame.{noFrame}
+use Rattle.rule.specs.declared.Refusal.{Refusal}
+use Rattle.rule.specs.declared.Answer.the-variants as answer
 use Rattle.port.specs.declared.Port.{Port}
+use Rattle.port.specs.declared.Acted.{Acted}
 
 -- another frame; another timetable; another frame and other counters
 abbrev pub withFrame : Frame → Port → Port
@@ -43,3 +46,10 @@ lateFor false x = begunBy x
 -- forgotten, if its end has come by t
 abbrev pub forgottenFrame : ℕ → Frame → Frame
 forgottenFrame t f = cond (isMarked (f .present) && leb (f .end) t) noFrame f
+
+-- an answer with the port that is handed back
+abbrev pub doneWith : Port → Acted
+doneWith p = record { answer = answer.Done; port = p }
+
+abbrev pub refusedWith : Refusal → Port → Acted
+refusedWith r p = record { answer = answer.Refused r; port = p }

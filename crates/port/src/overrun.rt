@@ -2,7 +2,8 @@
 ghost use mathlib.Core.Path.{_≡_};
 ghost use Rattle.rule.specs.Port as model;
 ghost use Rattle.frames.specs.Frame.{decodeFrame};
-ghost use Rattle.port.specs.Coding.{decode, encode, Fine};
+ghost use Rattle.port.specs.Coding.{decode, encode};
+ghost use Rattle.port.specs.Checks.{Fine};
 ghost use Rattle.port.specs.Updates.{markedFrame, countedFor};
 use crate::Port;
 use frames::Frame;

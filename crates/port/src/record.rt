@@ -1,7 +1,8 @@
 // Refusal 14: whether a record is well formed, for any bit pattern of its fields; and the record of a new port.
 ghost use mathlib.Core.Path.{_≡_};
 ghost use Rattle.rule.specs.Port.{newPort};
-ghost use Rattle.port.specs.Coding.{encode, Checked};
+ghost use Rattle.port.specs.Coding.{encode};
+ghost use Rattle.port.specs.Checks.{Checked};
 use crate::Port;
 
 // Whether none of the conditions of 14 fails.

@@ -61,7 +61,8 @@ use Rattle.port.specs.Updates.{withFrame}
 use Rattle.port.specs.Transmit.{Transmits}
 use Rattle.port.proofs.Transmissions.{transmit-stores}
 use Rattle.driver.specs.declared.Framed.{Framed}
-use Rattle.driver.specs.Lent.{answerFor, answerTo, Frames, Lends}
+use Rattle.driver.specs.Lent.{answerFor, answerTo, Lends}
+use Rattle.driver.specs.Framing.{Frames}
 use Rattle.driver.proofs.Lend as L
 use Rattle.port.proofs.Port as T
 use Rattle.port.proofs.Port.Laws as T′

@@ -1,6 +1,5 @@
 -- `frames::choosing::chosen` meets its contract: the frame of the highest class that qualifies, by what is shown.
 -- Assumes nothing.
-use borrow.Author.Needs.{needs}
 use native.Mathlib.Omega.{arith}
 use Rattle.rule.specs.Timetable.{shown}
 use Rattle.timetable.specs.declared.Timetable.{Timetable}

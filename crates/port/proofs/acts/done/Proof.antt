@@ -1,7 +1,7 @@
 -- `port::acts::done` meets its contract: the port after the overrun test.
 -- Assumes nothing.
 use mathlib.Core.Path.{ap}
-use Rattle.port.specs.Acts.{doneWith}
+use Rattle.port.specs.Updates.{doneWith}
 use Rattle.port.proofs.acts.done.Statement.{statement}
 use Rattle.port.proofs.acts.done.Tie as tie
 

@@ -11,7 +11,8 @@ use Rattle.rule.specs.Orders.{accepts}
 use Rattle.gatelist.specs.Places.{Places}
 use Rattle.port.specs.declared.Port.{Port}
 use Rattle.port.specs.Record.{wellFormed}
-use Rattle.port.specs.Coding.{decode, encode, Fine, Checked}
+use Rattle.port.specs.Coding.{decode, encode}
+use Rattle.port.specs.Checks.{Fine, Checked}
 use Rattle.port.specs.Acts.{declines, submission}
 use Rattle.port.specs.Updates.{submitAct}
 use Rattle.port.proofs.Coding.{checked}

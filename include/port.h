@@ -145,8 +145,8 @@ KURFANDAZ_AT(answer, last, 16);
 KURFANDAZ_AT(answer, end, 24);
 KURFANDAZ_SIZE(answer, 32);
 
-/* Chooses the next frame and stores it in the port: of the highest class that has one, whose gate is open now, and whose frame ends before the gate
- * closes. heads: the length in octets of the frame at the head of each class's queue, 0 if the queue is empty. speed: in Mbit/s.
+/* Chooses the next frame and stores it in the port: of the highest class that has one and whose gate is open at each instant from now to before the
+ * frame's last octet, by what is shown if no further act comes, a change that waits included. heads: the length in octets of the frame at the head of each class's queue, 0 if the queue is empty. speed: in Mbit/s.
  * Refused, in this order: 14, 13, 17, 12. A refused call changes no octet of the port; neither does one that chooses nothing. Else the port's frame
  * has its six fields set, and no other field changes. */
 struct kurfandaz_answer kurfandaz_transmit(struct kurfandaz_port *port, const uint64_t heads[KURFANDAZ_CLASSES], uint64_t speed);

@@ -1,31 +1,18 @@
-// What a call answers, put into the lent buffer from its first place on, and what it leaves.
+// What a call answers, put into the lent buffer from its first place on, and the port that it leaves. No answer is empty: 0 octets say that the line is no call.
 use port::Acted;
 use port::Port;
 use rule::Answer;
 use rule::Refusal;
 
-// After a line: the port, how many octets of the buffer are the answer, and whether the line was a call.
+// After a call on the port: the port, and how many octets of the buffer are the answer.
 pub struct Held {
     pub port: Port,
     pub at: usize,
-    pub is_call: bool,
 }
 
 // A line that is no call changes nothing.
-pub fn no_call(p: Port) -> Held {
-    Held {
-        port: p,
-        at: 0,
-        is_call: false,
-    }
-}
-
-pub fn answered(p: Port, at: usize) -> Held {
-    Held {
-        port: p,
-        at,
-        is_call: true,
-    }
+pub fn no_call(port: Port) -> Held {
+    Held { port, at: 0 }
 }
 
 pub fn say_refused(out: &mut [u8], r: Refusal) -> usize {
@@ -42,10 +29,10 @@ pub fn say_answer(out: &mut [u8], a: Answer) -> usize {
 
 // An act's answer.
 pub fn acted(a: Acted, out: &mut [u8]) -> Held {
-    let p = a.port;
+    let port = a.port;
     let x = a.answer;
     let at = say_answer(out, x);
-    answered(p, at)
+    Held { port, at }
 }
 
 // `ok` and a count.
@@ -54,8 +41,8 @@ pub fn say_count(out: &mut [u8], n: usize) -> usize {
     text::spaced(out, at, n as u64)
 }
 
-// Instants, a space before each.
-pub fn say_instants(out: &mut [u8], at: usize, xs: &[u64]) -> usize {
+// Numbers, a space before each.
+pub fn say_numbers(out: &mut [u8], at: usize, xs: &[u64]) -> usize {
     let mut next = at;
     let mut i: usize = 0;
     while i < xs.len() {

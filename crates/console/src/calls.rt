@@ -1,13 +1,13 @@
-// The calls on a port, and the line that one stands in. Each call takes the line behind its word, the port and the buffer for the answer.
+// The calls on a port, and the line that one stands in. A call takes the line behind its word, the port if it looks at it, and the buffer for the answer; one that acts hands
+// back the port.
 ghost use mathlib.Core.Path.{_≡_};
 ghost use lib.ListN.{length};
 use crate::answer::Held;
 use crate::answer::acted;
-use crate::answer::answered;
 use crate::answer::no_call;
 use crate::answer::say_answer;
 use crate::answer::say_count;
-use crate::answer::say_instants;
+use crate::answer::say_numbers;
 use crate::answer::say_octets;
 use crate::answer::say_refused;
 use crate::coded::call_read;
@@ -15,6 +15,12 @@ use crate::coded::call_write;
 use crate::lists::take_list;
 use crate::record::call_load;
 use crate::record::call_show;
+use crate::rows::LARGEST_8;
+use crate::rows::LARGEST_32;
+use crate::rows::LARGEST_64;
+use crate::rows::octet;
+use crate::rows::take_row;
+use crate::rows::word;
 use frames::Choice;
 use frames::FrameTime;
 use gatelist::GateList;
@@ -27,20 +33,22 @@ use text::Scan;
 
 // new START STANDING
 fn call_new(s: &[u8], c: Scan, p: Port, out: &mut [u8]) -> Held {
-    let start = text::number64(s, c);
-    let standing = text::number8(s, start.scan);
-    if !text::at_end(s, standing.scan) {
+    let r = take_row(s, c, &[LARGEST_64, LARGEST_8]);
+    if !text::at_end(s, r.scan) {
         return no_call(p);
     }
-    let made = Port::new(start.value, standing.value);
+    let x = r.values;
+    let made = Port::new(x[0], octet(x[1]));
+    let port = made.port;
     let a = made.answer;
     let at = say_answer(out, a);
     match a {
-        Answer::Done => answered(made.port, at),
-        Answer::Refused(_) => answered(p, at),
+        Answer::Done => Held { port, at },
+        Answer::Refused(_) => Held { port: p, at },
     }
 }
 
+// on, and off
 fn call_on(s: &[u8], c: Scan, p: Port, out: &mut [u8]) -> Held {
     if !text::at_end(s, c) {
         return no_call(p);
@@ -64,16 +72,12 @@ fn call_standing(s: &[u8], c: Scan, p: Port, out: &mut [u8]) -> Held {
     acted(p.standing(octet.value), out)
 }
 
-// The strict submission, or the one that takes the place of what waits.
-fn submitted(
-    p: Port,
-    strict: bool,
-    list: GateList,
-    numerator: u32,
-    denominator: u32,
-    extension: u32,
-    base: u64,
-) -> Acted {
+// The strict submission, or the one that takes the place of what waits. numbers: LEN NUM DEN EXT BASE
+fn submitted(p: Port, strict: bool, list: GateList, numbers: [u64; 8]) -> Acted {
+    let numerator = word(numbers[1]);
+    let denominator = word(numbers[2]);
+    let extension = word(numbers[3]);
+    let base = numbers[4];
     if strict {
         return p.submit_strict(list, numerator, denominator, extension, base);
     }
@@ -82,35 +86,25 @@ fn submitted(
 
 // submit LEN NUM DEN EXT BASE K o1 i1 .. oK iK, the strict one; replace with the same tokens
 fn call_submit(s: &[u8], c: Scan, p: Port, strict: bool, out: &mut [u8]) -> Held {
-    let len = text::number64(s, c);
-    let numerator = text::number32(s, len.scan);
-    let denominator = text::number32(s, numerator.scan);
-    let extension = text::number32(s, denominator.scan);
-    let base = text::number64(s, extension.scan);
-    let l = take_list(s, base.scan, len.value as usize);
+    let r = take_row(
+        s,
+        c,
+        &[LARGEST_64, LARGEST_32, LARGEST_32, LARGEST_32, LARGEST_64],
+    );
+    let x = r.values;
+    let l = take_list(s, r.scan, x[0] as usize);
     if !text::at_end(s, l.scan) {
         return no_call(p);
     }
-    let a = submitted(
-        p,
-        strict,
-        l.list,
-        numerator.value,
-        denominator.value,
-        extension.value,
-        base.value,
-    );
-    acted(a, out)
+    acted(submitted(p, strict, l.list, x), out)
 }
 
 fn say_choice(out: &mut [u8], a: Choice) -> usize {
     match a {
         Choice::Frame(class, start, last, end) => {
             let at = text::put(out, 0, b"frame");
-            let at = text::spaced(out, at, text::wide(class));
-            let at = text::spaced(out, at, start);
-            let at = text::spaced(out, at, last);
-            text::spaced(out, at, end)
+            let numbers = [text::wide(class), start, last, end];
+            say_numbers(out, at, &numbers)
         }
         Choice::Nothing => text::put(out, 0, b"none"),
         Choice::Refused(r) => say_refused(out, r),
@@ -119,31 +113,17 @@ fn say_choice(out: &mut [u8], a: Choice) -> usize {
 
 // transmit h0 .. h7 SPEED
 fn call_transmit(s: &[u8], c: Scan, p: Port, out: &mut [u8]) -> Held {
-    let mut heads = [0u64; 8];
-    let h0 = text::number64(s, c);
-    heads[0] = h0.value;
-    let h1 = text::number64(s, h0.scan);
-    heads[1] = h1.value;
-    let h2 = text::number64(s, h1.scan);
-    heads[2] = h2.value;
-    let h3 = text::number64(s, h2.scan);
-    heads[3] = h3.value;
-    let h4 = text::number64(s, h3.scan);
-    heads[4] = h4.value;
-    let h5 = text::number64(s, h4.scan);
-    heads[5] = h5.value;
-    let h6 = text::number64(s, h5.scan);
-    heads[6] = h6.value;
-    let h7 = text::number64(s, h6.scan);
-    heads[7] = h7.value;
-    let speed = text::number64(s, h7.scan);
+    let r = take_row(s, c, &[LARGEST_64; 8]);
+    let speed = text::number64(s, r.scan);
     if !text::at_end(s, speed.scan) {
         return no_call(p);
     }
+    let heads = r.values;
     let t = p.transmit(heads, speed.value);
+    let port = t.port;
     let a = t.answer;
     let at = say_choice(out, a);
-    answered(t.port, at)
+    Held { port, at }
 }
 
 fn say_step(out: &mut [u8], a: StepAnswer) -> usize {
@@ -156,11 +136,12 @@ fn say_step(out: &mut [u8], a: StepAnswer) -> usize {
 // A step with two buffers, and says both.
 fn step_into(p: Port, goal: u64, instants: &mut [u64], octets: &mut [u8], out: &mut [u8]) -> Held {
     let s = p.step(goal, instants, octets);
+    let port = s.port;
     let a = s.answer;
     let at = say_step(out, a);
-    let at = say_instants(out, at, instants);
+    let at = say_numbers(out, at, instants);
     let at = say_octets(out, at, octets);
-    answered(s.port, at)
+    Held { port, at }
 }
 
 // The places of a step's buffers before it. The contracts give only their number, which lending a part of them needs.
@@ -191,33 +172,31 @@ fn stepped(p: Port, goal: u64, mi: usize, mo: usize, out: &mut [u8]) -> Held {
 
 // step GOAL MI MO
 fn call_step(s: &[u8], c: Scan, p: Port, out: &mut [u8]) -> Held {
-    let goal = text::number64(s, c);
-    let mi = text::number(s, goal.scan, 4096);
-    let mo = text::number(s, mi.scan, 4096);
-    if !text::at_end(s, mo.scan) {
+    let r = take_row(s, c, &[LARGEST_64, 4096, 4096]);
+    if !text::at_end(s, r.scan) {
         return no_call(p);
     }
-    stepped(p, goal.value, mi.value as usize, mo.value as usize, out)
+    let x = r.values;
+    stepped(p, x[0], x[1] as usize, x[2] as usize, out)
 }
 
-// look T
-fn call_look(s: &[u8], c: Scan, p: Port, out: &mut [u8]) -> Held {
-    let t = text::number64(s, c);
-    if !text::at_end(s, t.scan) {
-        return no_call(p);
-    }
-    let l = p.look(t.value);
+fn say_looked(out: &mut [u8], l: Looked) -> usize {
     match l {
         Looked::Octet(o) => {
             let at = text::put(out, 0, b"octet");
-            let at = text::spaced(out, at, text::wide(o));
-            answered(p, at)
+            text::spaced(out, at, text::wide(o))
         }
-        Looked::Refused(r) => {
-            let at = say_refused(out, r);
-            answered(p, at)
-        }
+        Looked::Refused(r) => say_refused(out, r),
     }
+}
+
+// look T
+fn call_look(s: &[u8], c: Scan, p: Port, out: &mut [u8]) -> usize {
+    let t = text::number64(s, c);
+    if !text::at_end(s, t.scan) {
+        return 0;
+    }
+    say_looked(out, p.look(t.value))
 }
 
 fn say_duration(out: &mut [u8], d: FrameTime) -> usize {
@@ -232,18 +211,17 @@ fn say_duration(out: &mut [u8], d: FrameTime) -> usize {
 }
 
 // duration LENGTH SPEED
-fn call_duration(s: &[u8], c: Scan, p: Port, out: &mut [u8]) -> Held {
-    let len = text::number64(s, c);
-    let speed = text::number64(s, len.scan);
-    if !text::at_end(s, speed.scan) {
-        return no_call(p);
+fn call_duration(s: &[u8], c: Scan, out: &mut [u8]) -> usize {
+    let r = take_row(s, c, &[LARGEST_64, LARGEST_64]);
+    if !text::at_end(s, r.scan) {
+        return 0;
     }
-    let at = say_duration(out, frames::duration(len.value, speed.value));
-    answered(p, at)
+    let x = r.values;
+    say_duration(out, frames::duration(x[0], x[1]))
 }
 
-// A call's word as a number; 0 is none.
-fn call_no(w: &[u8]) -> u8 {
+// The word of a call that acts on the port, as a number; 0 is none.
+fn act_no(w: &[u8]) -> u8 {
     if text::same(w, b"new") {
         return 1;
     }
@@ -259,59 +237,76 @@ fn call_no(w: &[u8]) -> u8 {
     if text::same(w, b"submit") {
         return 5;
     }
-    if text::same(w, b"step") {
+    if text::same(w, b"replace") {
         return 6;
     }
-    if text::same(w, b"look") {
+    if text::same(w, b"transmit") {
         return 7;
     }
-    other_call_no(w)
-}
-
-fn other_call_no(w: &[u8]) -> u8 {
-    if text::same(w, b"transmit") {
+    if text::same(w, b"step") {
         return 8;
     }
-    if text::same(w, b"read") {
-        return 9;
-    }
-    if text::same(w, b"write") {
-        return 10;
-    }
     if text::same(w, b"load") {
-        return 11;
-    }
-    if text::same(w, b"show") {
-        return 12;
-    }
-    if text::same(w, b"duration") {
-        return 13;
-    }
-    if text::same(w, b"replace") {
-        return 14;
+        return 9;
     }
     0
 }
 
-// What a line with a call's word answers.
-pub fn call(s: &[u8], p: Port, out: &mut [u8]) -> Held {
-    let t = text::next(s, text::start());
-    let c = t.scan;
-    match call_no(text::part(s, t.first, t.end)) {
+// The word of a call that leaves it.
+fn question_no(w: &[u8]) -> u8 {
+    if text::same(w, b"look") {
+        return 1;
+    }
+    if text::same(w, b"show") {
+        return 2;
+    }
+    if text::same(w, b"read") {
+        return 3;
+    }
+    if text::same(w, b"write") {
+        return 4;
+    }
+    if text::same(w, b"duration") {
+        return 5;
+    }
+    0
+}
+
+// What a call that acts answers, by its number.
+fn act(no: u8, s: &[u8], c: Scan, p: Port, out: &mut [u8]) -> Held {
+    match no {
         1 => call_new(s, c, p, out),
         2 => call_on(s, c, p, out),
         3 => call_off(s, c, p, out),
         4 => call_standing(s, c, p, out),
         5 => call_submit(s, c, p, true, out),
-        6 => call_step(s, c, p, out),
-        7 => call_look(s, c, p, out),
-        8 => call_transmit(s, c, p, out),
-        9 => call_read(s, c, p, out),
-        10 => call_write(s, c, p, out),
-        11 => call_load(s, c, p, out),
-        12 => call_show(s, c, p, out),
-        13 => call_duration(s, c, p, out),
-        14 => call_submit(s, c, p, false, out),
-        _ => no_call(p),
+        6 => call_submit(s, c, p, false, out),
+        7 => call_transmit(s, c, p, out),
+        8 => call_step(s, c, p, out),
+        _ => call_load(s, c, p, out),
     }
+}
+
+// What a call answers that leaves the port as it is.
+fn question(no: u8, s: &[u8], c: Scan, p: Port, out: &mut [u8]) -> usize {
+    match no {
+        1 => call_look(s, c, p, out),
+        2 => call_show(s, c, p, out),
+        3 => call_read(s, c, out),
+        4 => call_write(s, c, out),
+        5 => call_duration(s, c, out),
+        _ => 0,
+    }
+}
+
+// What a line with a call's word answers.
+pub fn call(s: &[u8], p: Port, out: &mut [u8]) -> Held {
+    let t = text::next(s, text::start());
+    let word = text::part(s, t.first, t.end);
+    let no = act_no(word);
+    if no != 0 {
+        return act(no, s, t.scan, p, out);
+    }
+    let at = question(question_no(word), s, t.scan, p, out);
+    Held { port: p, at }
 }

@@ -1,64 +1,18 @@
 // The calls on a list's octets: read and write.
 ghost use mathlib.Core.Path.{_≡_};
 ghost use lib.ListN.{length};
-use crate::answer::Held;
-use crate::answer::answered;
-use crate::answer::no_call;
 use crate::answer::say_count;
 use crate::answer::say_octets;
 use crate::answer::say_refused;
 use crate::lists::say_places;
 use crate::lists::take_list;
+use crate::rows::LARGEST_64;
+use crate::rows::take_row;
 use gatelist::GateList;
 use octets::ListRead;
 use octets::ReadAnswer;
 use octets::Written;
-use port::Port;
 use text::Scan;
-
-// An octet of two digits, if they are good.
-struct Octet {
-    value: u8,
-    good: bool,
-}
-
-fn octet_of(high: u8, low: u8) -> Octet {
-    let h = text::hex_value(high);
-    let l = text::hex_value(low);
-    if h < 16 {
-        if l < 16 {
-            return Octet {
-                value: 16 * h + l,
-                good: true,
-            };
-        }
-    }
-    Octet {
-        value: 0,
-        good: false,
-    }
-}
-
-// The n octets of hexadecimal digits, two for each, go to the front of a buffer. False: a digit is bad, or there is no room.
-fn fill(s: &[u8], to: &mut [u8], n: usize) -> bool {
-    let mut i: usize = 0;
-    while i < n {
-        if to.len() <= i {
-            return false;
-        }
-        let at = 2 * i;
-        if s.len() < at + 2 {
-            return false;
-        }
-        let p = octet_of(s[at], s[at + 1]);
-        if !p.good {
-            return false;
-        }
-        to[i] = p.value;
-        i = i + 1;
-    }
-    true
-}
 
 fn say_read(out: &mut [u8], r: ListRead) -> usize {
     let a = r.answer;
@@ -77,37 +31,27 @@ fn say_read(out: &mut [u8], r: ListRead) -> usize {
 }
 
 // Reads a list from the octets that a token of hexadecimal digits gives.
-fn read_hex(hex: &[u8], stated: u64, p: Port, out: &mut [u8]) -> Held {
-    let n = hex.len() / 2;
-    if 1024 < n {
-        return no_call(p);
-    }
-    if (n == 0) | (2 * n != hex.len()) {
-        return no_call(p);
-    }
+fn read_hex(hex: &[u8], stated: u64, out: &mut [u8]) -> usize {
     let mut code = [0u8; 1024];
-    if !fill(hex, &mut code, n) {
-        return no_call(p);
+    let n = text::from_hex(hex, &mut code);
+    if n == 0 {
+        return 0;
     }
-    let r = octets::read(&code[..n], stated);
-    let at = say_read(out, r);
-    answered(p, at)
+    say_read(out, octets::read(&code[..n], stated))
 }
 
 // read STATED HEX
-pub fn call_read(s: &[u8], c: Scan, p: Port, out: &mut [u8]) -> Held {
+pub fn call_read(s: &[u8], c: Scan, out: &mut [u8]) -> usize {
     let stated = text::number64(s, c);
     let t = text::next(s, stated.scan);
     if !text::at_end(s, t.scan) {
-        return no_call(p);
+        return 0;
     }
     let hex = text::part(s, t.first, t.end);
     if text::same(hex, b"-") {
-        let r = octets::read(&hex[..0], stated.value);
-        let at = say_read(out, r);
-        return answered(p, at);
+        return say_read(out, octets::read(&hex[..0], stated.value));
     }
-    read_hex(hex, stated.value, p, out)
+    read_hex(hex, stated.value, out)
 }
 
 fn say_written(out: &mut [u8], w: Written) -> usize {
@@ -132,23 +76,22 @@ fn preset() -> [u8; 1024]
 }
 
 // Writes a list to a buffer of n places.
-fn written(l: GateList, n: u64, p: Port, out: &mut [u8]) -> Held {
+fn written(l: GateList, n: u64, out: &mut [u8]) -> usize {
     let mut buffer = preset();
     if 1024 < n {
-        return no_call(p);
+        return 0;
     }
     let room = n as usize;
-    let at = write_into(l, &mut buffer[..room], out);
-    answered(p, at)
+    write_into(l, &mut buffer[..room], out)
 }
 
 // write LEN BUFLEN K o1 i1 .. oK iK
-pub fn call_write(s: &[u8], c: Scan, p: Port, out: &mut [u8]) -> Held {
-    let len = text::number64(s, c);
-    let n = text::number(s, len.scan, 1024);
-    let l = take_list(s, n.scan, len.value as usize);
+pub fn call_write(s: &[u8], c: Scan, out: &mut [u8]) -> usize {
+    let r = take_row(s, c, &[LARGEST_64, 1024]);
+    let x = r.values;
+    let l = take_list(s, r.scan, x[0] as usize);
     if !text::at_end(s, l.scan) {
-        return no_call(p);
+        return 0;
     }
-    written(l.list, n.value, p, out)
+    written(l.list, x[1], out)
 }

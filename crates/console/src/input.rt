@@ -22,12 +22,11 @@ struct Answered {
 const LONGEST: usize = 1048576;
 
 // An answer with its line end.
-fn closed(out: &mut [u8], is_call: bool, at: usize) -> usize {
-    if is_call {
-        text::put(out, at, b"\n")
-    } else {
-        text::put(out, 0, b"not a call\n")
+fn closed(out: &mut [u8], at: usize) -> usize {
+    if at == 0 {
+        return text::put(out, 0, b"not a call\n");
     }
+    text::put(out, at, b"\n")
 }
 
 // Answers a line, if it is not empty and no remark.
@@ -45,7 +44,7 @@ fn answer(s: &[u8], p: Port, out: &mut [u8]) -> Answered {
         };
     }
     let h = call(s, p, out);
-    let end = closed(out, h.is_call, h.at);
+    let end = closed(out, h.at);
     let written = text::show(out, end);
     if !written {
         text::complain(b"console: standard output cannot be written");

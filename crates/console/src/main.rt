@@ -8,6 +8,7 @@ mod coded;
 mod input;
 mod lists;
 mod record;
+mod rows;
 
 // Places for the input, and for an answer. The contracts give only their number, which lending them needs.
 fn input_places() -> [u8; 1048577]

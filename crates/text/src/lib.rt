@@ -6,9 +6,11 @@ ghost use Prim.Native.Nat.{_<_};
 ghost use Rattle.text.specs.Decimal.{decimalOf};
 ghost use Rattle.text.specs.Put.{Puts, PutsBehind, glyphOf, hexOf};
 
+mod digits;
 mod scan;
 mod stream;
 
+pub use digits::from_hex;
 pub use scan::Scan;
 pub use scan::Taken;
 pub use scan::Taken8;

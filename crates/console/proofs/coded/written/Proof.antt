@@ -10,9 +10,6 @@ use Rattle.console.proofs.coded.written.Tie as tie
 preset-requires : tie.Need-preset-requires
 preset-requires c κs = search needs
 
-no-call-requires : tie.Need-no-call-requires
-no-call-requires c κs = search needs
-
 returns : tie.Need-returns
 returns c = search needs
 
@@ -25,9 +22,6 @@ slice-aggregate-write-into c = sym (length-take-le _ (c .before .before .preset 
 write-into-requires : tie.Need-write-into-requires
 write-into-requires c κs = search needs
 
-answered-requires : tie.Need-answered-requires
-answered-requires c κs = search needs
-
 same-length : tie.Need-same-length
 same-length c = search needs
 
@@ -39,11 +33,9 @@ written-spec =
     tie.close
     (tie.spec
     preset-requires
-    no-call-requires
     returns
     array-borrow-prefix-buffer
     slice-aggregate-write-into
     write-into-requires
-    answered-requires
     same-length
     returns-2)

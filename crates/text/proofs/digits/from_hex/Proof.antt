@@ -1,44 +1,41 @@
--- `console::coded::fill` is safe and ends: the buffer keeps its length; the measure is what is left of the octets.
+-- `text::digits::from_hex` is safe and ends, and answers no more than the buffer holds: the buffer keeps its length; the measure is what is left of the octets.
 -- Assumes nothing.
 use mathlib.Core.Path.{_≡_}
-use Prim.Native.Nat.{_-_}
+use Prim.Native.Nat.{_-_, _≤_}
 use lib.ListN.{length}
 use borrow.Author.Needs.{needs}
-use Rattle.console.proofs.coded.fill.Statement.{statement}
-use Rattle.console.proofs.coded.fill.Tie as tie
+use Rattle.text.proofs.digits.from_hex.Statement.{statement}
+use Rattle.text.proofs.digits.from_hex.Tie as tie
 
 abbrev Inv-loop : tie.InvT-loop
-Inv-loop s to₀ n i₀ to i = length to ≡ length to₀
+Inv-loop s to₀ n i₀ to i = (length to ≡ length to₀) × (n ≤ length to₀)
 
 abbrev μ-loop : tie.MeasureT-loop
 μ-loop s to₀ n i₀ to i = n - i
 
-loop-holds : tie.Need-loop-holds Inv-loop μ-loop
-loop-holds c = search needs
-
-same-length : tie.Need-same-length Inv-loop μ-loop
-same-length c = search needs
-
 returns : tie.Need-returns Inv-loop μ-loop
 returns c = search needs
-
-mul-at : tie.Need-mul-at Inv-loop μ-loop
-mul-at c = search needs
 
 add-if2 : tie.Need-add-if2 Inv-loop μ-loop
 add-if2 c = search needs
 
-same-length-2 : tie.Need-same-length-2 Inv-loop μ-loop
-same-length-2 c = search needs
-
 returns-2 : tie.Need-returns-2 Inv-loop μ-loop
 returns-2 c = search needs
+
+loop-holds : tie.Need-loop-holds Inv-loop μ-loop
+loop-holds c = search needs
+
+add-octet-of : tie.Need-add-octet-of Inv-loop μ-loop
+add-octet-of c = search needs
 
 shared-slice-read-octet-of : tie.Need-shared-slice-read-octet-of Inv-loop μ-loop
 shared-slice-read-octet-of c = search needs
 
-add-octet-of : tie.Need-add-octet-of Inv-loop μ-loop
-add-octet-of c = search needs
+add-octet-of-2 : tie.Need-add-octet-of-2 Inv-loop μ-loop
+add-octet-of-2 c = search needs
+
+add-octet-of-3 : tie.Need-add-octet-of-3 Inv-loop μ-loop
+add-octet-of-3 c = search needs
 
 shared-slice-read-octet-of-2 : tie.Need-shared-slice-read-octet-of-2 Inv-loop μ-loop
 shared-slice-read-octet-of-2 c = search needs
@@ -46,8 +43,8 @@ shared-slice-read-octet-of-2 c = search needs
 octet-of-requires : tie.Need-octet-of-requires Inv-loop μ-loop
 octet-of-requires c κs = search needs
 
-same-length-3 : tie.Need-same-length-3 Inv-loop μ-loop
-same-length-3 c = search needs
+same-length : tie.Need-same-length Inv-loop μ-loop
+same-length c = search needs
 
 returns-3 : tie.Need-returns-3 Inv-loop μ-loop
 returns-3 c = search needs
@@ -64,34 +61,33 @@ loop-less c = search needs
 loop-again : tie.Need-loop-again Inv-loop μ-loop
 loop-again c = search needs
 
-same-length-4 : tie.Need-same-length-4 Inv-loop μ-loop
-same-length-4 c = search needs
+same-length-2 : tie.Need-same-length-2 Inv-loop μ-loop
+same-length-2 c = search needs
 
 returns-4 : tie.Need-returns-4 Inv-loop μ-loop
 returns-4 c = search needs
 
-pub fill-spec : {M : Type 1} → statement M
-fill-spec =
+pub from-hex-spec : {M : Type 1} → statement M
+from-hex-spec =
     tie.close
     (tie.spec
     Inv-loop
     μ-loop
-    loop-holds
-    same-length
     returns
-    mul-at
     add-if2
-    same-length-2
     returns-2
-    shared-slice-read-octet-of
+    loop-holds
     add-octet-of
+    shared-slice-read-octet-of
+    add-octet-of-2
+    add-octet-of-3
     shared-slice-read-octet-of-2
     octet-of-requires
-    same-length-3
+    same-length
     returns-3
     slice-write-to
     add-i
     loop-less
     loop-again
-    same-length-4
+    same-length-2
     returns-4)

@@ -1,11 +1,11 @@
--- `console::answer::say_instants` is safe and ends: the buffer keeps its length; the measure is what is left of the numbers.
+-- `console::answer::say_numbers` is safe and ends: the buffer keeps its length; the measure is what is left of the numbers.
 -- Assumes nothing.
 use mathlib.Core.Path.{_≡_}
 use Prim.Native.Nat.{_-_}
 use lib.ListN.{length}
 use borrow.Author.Needs.{needs}
-use Rattle.console.proofs.answer.say_instants.Statement.{statement}
-use Rattle.console.proofs.answer.say_instants.Tie as tie
+use Rattle.console.proofs.answer.say_numbers.Statement.{statement}
+use Rattle.console.proofs.answer.say_numbers.Tie as tie
 
 abbrev Inv-loop : tie.InvT-loop
 Inv-loop out₀ at xs next₀ i₀ out next i = length out ≡ length out₀
@@ -40,8 +40,8 @@ same-length c = search needs
 returns : tie.Need-returns Inv-loop μ-loop
 returns c = search needs
 
-pub say-instants-spec : {M : Type 1} → statement M
-say-instants-spec =
+pub say-numbers-spec : {M : Type 1} → statement M
+say-numbers-spec =
     tie.close
     (tie.spec
     Inv-loop

@@ -1,5 +1,7 @@
 // bench CASE N: does the work of a case N times and writes a checksum. `bench all N` does every case. What each case is stands in peer/README.md, and
 // peer/bench does the same work: bench/run counts the instructions of both.
+#![tactic(auto)]
+
 mod lists;
 mod work;
 

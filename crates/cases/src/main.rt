@@ -1,5 +1,7 @@
 // Worked sheets, as a table on standard input: a line that begins with # is a title and is written as it stands; any other line is a sheet in hexadecimal digits, and its
 // listing is written. What is written is compared with crates/cases/stdout.
+#![tactic(auto)]
+
 use lister::Listed;
 use text::Input;
 

@@ -1,4 +1,6 @@
 // The console: one call to a line of standard input, one answer to a line of standard output. Each line is answered before the next is looked at.
+#![tactic(auto)]
+
 ghost use Rattle.std.specs.Prelude.{◌≡◌, length};
 
 mod answer;

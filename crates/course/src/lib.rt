@@ -1,5 +1,7 @@
 // The course of a timetable over time: from its clock towards a goal, with each change of what it shows written into two lent buffers. A refused travel
 // writes nothing.
+#![tactic(auto)]
+
 mod periods;
 mod spans;
 mod stretch;

@@ -1,5 +1,7 @@
 // The driver's call: its one port record is lent, and a transmit on it stores the frame there. A refused call, and one that finds nothing to send, leave
 // every octet of the record as it is. Exported to C: include/port.h has the record and what a caller must keep.
+#![tactic(auto)]
+
 ghost use Rattle.std.specs.Prelude.{◌≡◌};
 ghost use Rattle.driver.specs.Lent.{answer_for, Lends};
 ghost use Rattle.driver.specs.Framing.{Frames};

@@ -1,4 +1,6 @@
 // The frame being sent, and the choice of the next one: the frame's record with its part of 14, the look ahead, the highest class that qualifies.
+#![tactic(auto)]
+
 mod ahead;
 mod choosing;
 mod deciding;

@@ -1,5 +1,7 @@
 // The gate control list of a port: its record of 128 places, the checks of a record, the entry and the octet at an offset of the cycle, one class's gate.
 // Every function takes any record, any length, any offset. Nothing is refused.
+#![tactic(auto)]
+
 ghost use Rattle.std.specs.Prelude.{◌≡◌, ◌<◌, min, length};
 ghost use Rattle.gatelist.specs.Sound.{every_below, place_ok};
 ghost use Rattle.gatelist.specs.Places.{used_ok, rest_ok, Checked};

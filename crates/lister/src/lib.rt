@@ -1,6 +1,8 @@
 // What the listing program does with a sheet: reads it and its list, makes a port at start, switches it on, submits, steps to end, and writes start, changes
 // and end to standard output. A refusal, met in that order after 15, writes only its number; nothing is written before the last refusal is ruled out. Pages
 // are filled by proved functions and handed to standard output whole.
+#![tactic(auto)]
+
 ghost use Rattle.std.specs.Prelude.{◌-◌};
 ghost use Rattle.port.specs.Coding.{decode};
 ghost use Rattle.lister.specs.Lines.{listing, refused_line, span_lines};

@@ -1,5 +1,7 @@
 // The listing program: a sheet on standard input, the port's changes on standard output. One octet more than a sheet has tells one that is too long. Of an input that
 // cannot be read nothing is listed; what went wrong is said on standard error.
+#![tactic(auto)]
+
 use lister::Listed;
 use text::Input;
 

@@ -1,5 +1,7 @@
 // The numbers of a sheet: groups of seven bits, lowest group first, the top bit set on all octets but the last, shortest form only. A number is read at
 // 8, 32 or 64 bits from any octets at any place, and written to the front of any buffer. A refused writing leaves the buffer as it was.
+#![tactic(auto)]
+
 ghost use Rattle.std.specs.Prelude.{◌≡◌, ◌++◌, ◌+◌, ◌/◌, ◌≤◌, ◌<◌, length, drop};
 ghost use Rattle.numbers.specs.Groups.{octets_of, joined, up_to, read_up_to, read_number, reading_of};
 ghost use Rattle.numbers.specs.Writing.{write_number, writing_of};

@@ -1,5 +1,7 @@
 // A list's octets, read and written. Every function takes any octets, any stated length, any record, any buffer. A refused reading hands back the list of
 // all zeros; a refused writing leaves the buffer as it was.
+#![tactic(auto)]
+
 ghost use Rattle.std.specs.Prelude.{◌≡◌};
 ghost use Rattle.gatelist.specs.Coding.{empty_list};
 ghost use Rattle.octets.specs.Octets.{Reads, Writes};

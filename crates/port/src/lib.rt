@@ -1,5 +1,7 @@
 // One port of a switch with eight traffic classes: its record, and the calls on it. Each act takes the record by value and hands back the next one
 // with its answer; a refused act hands back the record that it got. Any bit pattern of a record is taken: a malformed one is refused.
+#![tactic(auto)]
+
 mod acts;
 mod looking;
 mod overrun;

@@ -336,7 +336,10 @@ run-kept s₀ k sum (step g m ∷ cs) h p t x =
 run-kept s₀ k sum (attempt a ∷ cs) h p t w =
     cases (λ (r : Outcome Port ℕ Act). Kept s₀ k h r.acts r.port.gates.clock sum p
     → get_or r.port.overruns k 0 ≡ (sum + rule_overruns s₀ k h r.acts r.port.gates.clock) % 2 ^ 64) (accepts a p) _ _
-    (λ acc x. run-kept s₀ k _ cs ((p.gates.clock, a) ∷ h) (perform a p) (tracks_act s₀ h p a acc t) (kept-perform s₀ k h _ _ sum p a acc t x) ∙ ap (λ n. n % 2 ^ 64) (omega arith))
+    (λ acc x.
+    let r = run machine cs (perform a p) in
+    run-kept s₀ k (sum + overrun_of s₀ k ((p.gates.clock, a) ∷ h) p.gates.clock r.acts r.port.gates.clock (frame_begun s₀ h p.gates.clock a)) cs
+    ((p.gates.clock, a) ∷ h) (perform a p) (tracks_act s₀ h p a acc t) (kept-perform s₀ k h _ _ sum p a acc t x) ∙ ap (λ n. n % 2 ^ 64) (omega arith))
     (λ _. run-kept s₀ k sum cs h p t)
     w
 

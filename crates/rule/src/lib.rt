@@ -1,5 +1,7 @@
 // What a call declines with: a name for each number of document 01, 'Numbers returned when a call declines'. Every crate above uses these names;
 // the number itself is for whoever prints or stores an answer.
+#![tactic(auto)]
+
 ghost use Rattle.rule.specs.Answers.{Numbers, First};
 
 #[derive(Drop)]
@@ -56,6 +58,7 @@ pub enum Answer {
 }
 
 // An order of refusals is a chain of tests: the first that holds gives its reason, else the rest of the chain answers.
+#[tactic(auto, unfolding(crate::specs::Answers::first_answer))]
 pub fn first(test: bool, reason: Refusal, rest: Answer) -> Answer
     ensures { First test reason rest result }
 {

@@ -1,4 +1,6 @@
 // The record of a sheet, read from any octets: eight numbers, and the place at which the list's octets begin. A malformed sheet has no record.
+#![tactic(auto)]
+
 ghost use Rattle.std.specs.Prelude.{◌≡◌};
 ghost use Rattle.sheet.specs.Sheet.{read_sheet, reading_of};
 

@@ -2,6 +2,8 @@
 // line to standard error. The text has a line for each of `standing OCTET`, `cycle NUMERATOR DENOMINATOR`, `extension NS`, `base NS`, `start NS` and `end NS`,
 // each once and in any order, and a line `entry OCTET NS` for each entry, in the list's order, with an interval of at least 1. Numbers are decimal, or hexadecimal after 0x. What stands behind
 // a # is a remark. Text of more than 65,536 octets is an error, and so are an input that cannot be read and an output that cannot be written.
+#![tactic(auto)]
+
 ghost use Rattle.std.specs.Prelude.{◌≡◌, length};
 
 mod form;

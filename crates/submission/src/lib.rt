@@ -1,4 +1,6 @@
 // A submission to a timetable: whether it is taken, and the numbers of the record after it. Nothing here looks at 14: the caller says whether its record is well formed.
+#![tactic(auto)]
+
 ghost use Rattle.std.specs.Prelude.{◌≡◌};
 ghost use Rattle.rule.specs.Cycle.{cycle_of, cycle_offered};
 ghost use Rattle.rule.specs.Orders.{length_offered};

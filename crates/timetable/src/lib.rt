@@ -1,5 +1,7 @@
 // The timetable of a gate: its record, and what is asked of it. All numbers and marks of the record are one struct, `Times`; the lists' arrays stand beside
 // it. Functions take `Times` by value and the arrays lent, and answer for any bit pattern: what a malformed record shows is what its numbers say.
+#![tactic(auto)]
+
 mod cursor;
 mod due;
 mod numbers;

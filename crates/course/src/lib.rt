@@ -14,7 +14,7 @@ use rule::{Answer, Refusal};
 use timetable::{Times, formed, minus, shown_at};
 
 // What a travel comes to: refused for a reason, or so many changes written, and the instant that it reaches.
-#[derive(Drop)]
+#[derive(Clone, Copy)]
 pub enum Course {
     Stays(Refusal),
     Goes(usize, u64),

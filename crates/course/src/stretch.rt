@@ -8,7 +8,7 @@ use timetable::{Stretch, advance, cursor_at, least};
 
 // How far a walk has come: the instant up to which every change is written, the octet shown there, how many are written; or that the next
 // change finds no room.
-#[derive(Drop)]
+#[derive(Clone, Copy)]
 pub struct Walk {
     pub at: u64,
     pub octet: u8,

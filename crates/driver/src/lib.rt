@@ -13,7 +13,7 @@ use timetable::Times;
 // What a lent transmit answers, in numbers: that of the refusal, or 0; and whether a frame was chosen (1) or not (0), with its class, start, last octet
 // and earliest next start. What does not apply is 0.
 #[repr(C)]
-#[derive(Drop)]
+#[derive(Clone, Copy)]
 pub struct Answer {
     pub number: u8,
     pub chosen: u8,
@@ -24,7 +24,7 @@ pub struct Answer {
 }
 
 // The answer, and the frame of the port after the call.
-#[derive(Drop)]
+#[derive(Clone, Copy)]
 struct Framed {
     answer: Answer,
     frame: Frame,

@@ -13,14 +13,14 @@ use timetable::{Span, Stretch, Times, least, regime};
 
 // What a walk knows of the gates: the classes whose gates it has found open all the way, and those whose gates it has met closed, but not before the ends
 // of their frames.
-#[derive(Drop)]
+#[derive(Clone, Copy)]
 pub struct Gates {
     pub left: u8,
     pub ended: u8,
 }
 
 // A place of a list, and the instant at which its entry begins.
-#[derive(Drop)]
+#[derive(Clone, Copy)]
 struct Spot {
     place: usize,
     at: u64,

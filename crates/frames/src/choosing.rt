@@ -16,7 +16,7 @@ use timetable::{Times, most};
 
 // What a transmit asks for: the classes that have a frame, when the last octet of the last of their frames is out, the time of the gap between frames, and
 // when the last octet would be out of the frame of each of the eight classes.
-#[derive(Drop)]
+#[derive(Clone, Copy)]
 struct Ends {
     wanted: u8,
     last: u64,

@@ -10,7 +10,7 @@ ghost use Rattle.gatelist.specs.Promises.{Widens, FindsZero, Empty, CopiesUsed, 
 
 // A list: entry k has the gate octet octets[k] and the interval intervals[k] in nanoseconds, for k below len. The other places are unused.
 #[repr(C)]
-#[derive(Drop)]
+#[derive(Clone, Copy)]
 pub struct GateList {
     pub octets: [u8; 128],
     pub intervals: [u32; 128],
@@ -19,7 +19,7 @@ pub struct GateList {
 
 // An entry of a list, counted from 0, and the stretch of offsets that it covers: from start to before end.
 #[repr(C)]
-#[derive(Drop)]
+#[derive(Clone, Copy)]
 pub struct Place {
     pub number: usize,
     pub start: u64,

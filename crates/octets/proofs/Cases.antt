@@ -39,4 +39,4 @@ unfolding case_1 of_reading of_writing column octets_a list_a rule.hold
 case_1_holds = tt
 
 pub starred_hold : T (rule.hold (case_1 ++ rule.starred))
-starred_hold = rule.hold-append case_1 rule.starred case_1_holds rule.starred-hold
+starred_hold = rule.hold-append case_1 rule.starred case_1_holds rule.starred_hold

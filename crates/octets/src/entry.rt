@@ -6,7 +6,7 @@ ghost use Rattle.octets.specs.Parts.{entry_read, entry_into};
 use rule::Refusal;
 
 // An entry read: its gate octet and interval, or why there is none.
-#[derive(Drop)]
+#[derive(Clone, Copy)]
 pub enum EntryRead {
     Good(u8, u32),
     Bad(Refusal),

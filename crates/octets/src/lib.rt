@@ -14,21 +14,21 @@ mod entry;
 use entry::EntryRead;
 
 // What reading answers: the list is taken, or the refusal and the place of the octet that it concerns.
-#[derive(Drop)]
+#[derive(Clone, Copy)]
 pub enum ReadAnswer {
     Accepted,
     Declined(Refusal, usize),
 }
 
 // What reading hands back. Of a refused reading the list is all zeros.
-#[derive(Drop)]
+#[derive(Clone, Copy)]
 pub struct ListRead {
     pub answer: ReadAnswer,
     pub list: GateList,
 }
 
 // What writing answers: how many octets it wrote, or the refusal.
-#[derive(Drop)]
+#[derive(Clone, Copy)]
 pub enum Written {
     Octets(usize),
     Unwritten(Refusal),

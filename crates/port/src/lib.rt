@@ -17,7 +17,7 @@ use timetable::Timetable;
 // The port: the frame being sent, the timetable of its gates (clock, mark, standing octet, what operates, what waits, ConfigChangeError), and the eight
 // TransmissionOverrun counters.
 #[repr(C)]
-#[derive(Drop)]
+#[derive(Clone, Copy)]
 pub struct Port {
     pub frame: Frame,
     pub gates: Timetable,
@@ -36,35 +36,35 @@ impl Port {
 }
 
 // An act's answer, and the port after it.
-#[derive(Drop)]
+#[derive(Clone, Copy)]
 pub struct Acted {
     pub answer: Answer,
     pub port: Port,
 }
 
 // What a look answers: the octet shown, or refused for a reason.
-#[derive(Drop)]
+#[derive(Clone, Copy)]
 pub enum Looked {
     Octet(u8),
     Refused(Refusal),
 }
 
 // What a step answers: how many changes it wrote, or refused for a reason.
-#[derive(Drop)]
+#[derive(Clone, Copy)]
 pub enum StepAnswer {
     Written(usize),
     Refused(Refusal),
 }
 
 // A step's answer, and the port after it.
-#[derive(Drop)]
+#[derive(Clone, Copy)]
 pub struct Stepped {
     pub answer: StepAnswer,
     pub port: Port,
 }
 
 // A transmit's answer, and the port after it.
-#[derive(Drop)]
+#[derive(Clone, Copy)]
 pub struct Transmitted {
     pub answer: Choice,
     pub port: Port,

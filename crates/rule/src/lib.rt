@@ -4,7 +4,7 @@
 
 ghost use Rattle.rule.specs.Answers.{Numbers, First};
 
-#[derive(Drop)]
+#[derive(Clone, Copy)]
 pub enum Refusal {
     CutShort,
     Operation,
@@ -51,7 +51,7 @@ pub fn number(r: Refusal) -> u8
 }
 
 // What an act answers: done, or refused for a reason.
-#[derive(Drop)]
+#[derive(Clone, Copy)]
 pub enum Answer {
     Done,
     Refused(Refusal),

@@ -6,7 +6,7 @@ ghost use Rattle.timetable.specs.Cursor.{entered, advanced, cursor_at};
 use crate::numbers::minus;
 
 // An entry of a running cycle: its place, the instant from which it is looked at, where it stops, and where the next cycle starts.
-#[derive(Drop)]
+#[derive(Clone, Copy)]
 pub struct Cursor {
     pub place: usize,
     pub from: u64,
@@ -16,7 +16,7 @@ pub struct Cursor {
 
 // A stretch in which one list rules: its cycles take a period, one of them has begun at base and runs at the instant from, and so it goes on to before
 // the edge.
-#[derive(Drop)]
+#[derive(Clone, Copy)]
 pub struct Stretch {
     pub len: usize,
     pub period: u64,

@@ -22,7 +22,7 @@ pub use starts::{change_instant, last_begun};
 // (AdminGateStates); of what operates the length of its list, its cycle and its extension in nanoseconds and the instant at which its cycles start; of what
 // waits the same, the change instant being its start, and since when it waits; the counter ConfigChangeError. All zeros where a part is absent.
 #[repr(C)]
-#[derive(Drop)]
+#[derive(Clone, Copy)]
 pub struct Times {
     pub clock: u64,
     pub on: u8,
@@ -43,7 +43,7 @@ pub struct Times {
 
 // The record: the numbers, and the places of the list that operates and of the list that waits.
 #[repr(C)]
-#[derive(Drop)]
+#[derive(Clone, Copy)]
 pub struct Timetable {
     pub times: Times,
     pub octets: [u8; 128],

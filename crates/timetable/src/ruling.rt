@@ -8,7 +8,7 @@ use crate::starts::{NEVER, last_start, plain_start};
 
 // A span over which the standing octet is shown (flat), or one list is read over cycles of a period: the waiting configuration's (new) or the operating
 // one's. The cycle that runs at the instant asked for has begun at start. It goes to before the edge.
-#[derive(Drop)]
+#[derive(Clone, Copy)]
 pub struct Span {
     pub flat: bool,
     pub new: bool,

@@ -1,0 +1,17 @@
+-- `frames::ahead::look_ahead` meets its contract. The loop's invariant: what is known of the gates before t. The measure: the instants left to last.
+-- Assumes nothing.
+use borrow.Author.Rules.{rules}
+use Prim.Native.Nat.{◌-◌, ◌≤◌}
+use native.Mathlib.Omega.{arith}
+use Rattle.rule.specs.Timetable.{shown}
+use Rattle.timetable.specs.Coding.{decode}
+use Rattle.timetable.specs.declared.Timetable.{Timetable}
+use Rattle.frames.specs.Ahead.{Tells, SweepsSpan}
+use Rattle.frames.proofs.Closing.{tells_start, tells_less, tells_all, spans_on}
+use Rattle.frames.proofs.ahead.look_ahead.Given as goal
+
+abbrev pub invariant-loop-t : goal.invariant-loop-t
+invariant-loop-t l = (l.x.clock ≤ l.t) × Tells (shown (decode (record { times = l.x; octets = l.os; intervals = l.vs; newoctets = l.ws; newintervals = l.zs }))) l.x.clock l.t l.wanted l.ends l.g
+
+abbrev pub decreases-loop-t : goal.decreases-loop-t
+decreases-loop-t l = l.last - l.t

@@ -1,0 +1,26 @@
+-- `octets::read` meets its contract: the loop's invariant is that i entries are read into the first i places, the others are zero, and what is left of
+-- the order is asked from entry i on; the measure is what is left of the stated length.
+-- Assumes nothing.
+use mathlib.Core.Path.{◌≡◌, sym, ◌∙◌}
+use mathlib.Core.List.{List}
+use Prim.Native.Nat.{ℕ, ◌≤◌, ◌-◌}
+use native.Mathlib.Omega.{arith}
+use borrow.Author.Rules.{rules}
+use Rattle.octets.specs.Octets.{entry_at, refusal_from, read_refusal}
+use Rattle.gatelist.proofs.Coding.{Filled, filled_none, filled_more}
+use Rattle.octets.proofs.Reading.{read_good, read_bad, refusal_more, refusal_entry, refusal_surplus, refusal_end, refusal_none, refusal_many, refusal_start, declined-read, accepted-read}
+use Rattle.octets.proofs.read.Given as goal
+
+pub record Inv (s : List ℕ) (n : ℕ) (gates intervals : List ℕ) (i : ℕ) : Type 0 where
+  pub some : 1 ≤ n
+  pub few : n ≤ 128
+  pub within : i ≤ n
+  pub rest : read_refusal s n ≡ refusal_from s i (n - i)
+  pub gates-read : Filled (λ k. (entry_at s k).octet) gates i
+  pub intervals-read : Filled (λ k. (entry_at s k).interval) intervals i
+
+abbrev pub invariant-loop-i : goal.invariant-loop-i
+invariant-loop-i l = Inv l.octets l.n l.gates l.intervals l.i
+
+abbrev pub decreases-loop-i : goal.decreases-loop-i
+decreases-loop-i l = l.n - l.i

@@ -1,0 +1,21 @@
+-- `timetable::ruling::regime` meets its contract: one law for each way out.
+-- Assumes nothing.
+use Rattle.std.proofs.Common.{rules}
+use Rattle.timetable.proofs.Spans.{rules_off, rules_waiting, rules_standing, rules_operating}
+use Rattle.timetable.proofs.ruling.regime.Goals as goal
+
+pub returns-then-x-ne1 : goal.returns-then-x-ne1
+returns-then-x-ne1 c =
+    rules_off _ _ c.if-x-ne1.true _ c.standing_to.ensures
+
+pub returns-then-x-eq1 : goal.returns-then-x-eq1
+returns-then-x-eq1 c =
+    rules_waiting _ _ c.if-x-ne1.false c.if-x-eq1.true _ c.regime_waiting.ensures
+
+pub returns-then-x-ne1-2 : goal.returns-then-x-ne1-2
+returns-then-x-ne1-2 c =
+    rules_standing _ _ c.if-x-ne1.false c.if-x-eq1.false c.if-x-ne1-2.true _ c.standing_to-then-x-ne1-2.ensures
+
+pub returns : goal.returns
+returns c =
+    rules_operating _ _ c.if-x-ne1.false c.if-x-eq1.false c.if-x-ne1-2.false _ c.plain_start.ensures

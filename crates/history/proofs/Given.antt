@@ -26,7 +26,7 @@ use Rattle.port.specs.Answers.{written_of}
 use Rattle.course.specs.Columns.{into, instants_of, octets_of}
 use Rattle.port.specs.Acts.{declines, after, look_declines}
 use Rattle.port.specs.Step.{step_declines, passes, reported, after_step}
-use Rattle.port.proofs.Numbers.{number_of_lem, answer-told, looked_of, looked_number, looked_octet, stepped_of, stepped-number, choice_number_lem}
+use Rattle.port.proofs.Numbers.{number_of_lem, answer-told, looked_of, looked_number_lem, looked_octet_lem, stepped_of, stepped-number, choice_number_lem}
 use Rattle.driver.specs.declared.Answer as driver
 use Rattle.driver.specs.Lent.{answer_for, answer_to}
 use Rattle.history.specs.Calls.{Call, act, lend, step, look, room, leaves, reports, asked, attempted, performed, run}
@@ -209,7 +209,7 @@ handed_allowed (step goal instants octets) p =
     }
 handed_allowed (look t) p =
     let octet : ℕ = shown (decode p).gates t in
-    record { number = looked_number (look_declines t p) octet; octet = looked_octet (look_declines t p) octet }
+    record { number = looked_number_lem (look_declines t p) octet; octet = looked_octet_lem (look_declines t p) octet }
 
 pub events : List Call → Port → List Event
 events [] p = []

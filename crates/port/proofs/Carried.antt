@@ -21,7 +21,7 @@ use Rattle.port.specs.Record.{well_formed}
 use Rattle.port.specs.Coding.{decode, encode}
 use Rattle.port.specs.Checks.{Fine}
 use Rattle.port.specs.Acts.{declines, after, Performs, look_declines, Looks, Makes}
-use Rattle.port.proofs.Numbers.{number_of_lem, answer-told, looked_of, looked_number, looked_octet, looked_told}
+use Rattle.port.proofs.Numbers.{number_of_lem, answer-told, looked_of, looked_number_lem, looked_octet_lem, looked_told}
 use Rattle.port.proofs.Coding.{decode-encode, formed}
 
 -- an act
@@ -72,8 +72,8 @@ module _ (p : Port) (w : well_formed p ≡ true) (t : ℕ) where
   look_carried r k =
       let o : Option Refusal = first_of (look_order t (decode p).gates) in
       let octet : ℕ = shown (decode p).gates t in
-      looked_told r (looked_of o octet) (k.number ∙ ap numbered look_declines_lem ∙ sym (looked_number o octet))
-      (k.octet ∙ ap (λ d. cond (accepted d) octet 0) look_declines_lem ∙ sym (looked_octet o octet))
+      looked_told r (looked_of o octet) (k.number ∙ ap numbered look_declines_lem ∙ sym (looked_number_lem o octet))
+      (k.octet ∙ ap (λ d. cond (accepted d) octet 0) look_declines_lem ∙ sym (looked_octet_lem o octet))
 
 -- a new port
 

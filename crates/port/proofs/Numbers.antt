@@ -31,13 +31,13 @@ abbrev pub looked_of : Option Refusal → ℕ → Looked
 looked_of none octet = looked.Octet octet
 looked_of (some r) octet = looked.Refused r
 
-pub looked_number : (o : Option Refusal) (octet : ℕ) → looked_number (looked_of o octet) ≡ numbered o
-looked_number none octet = refl
-looked_number (some r) octet = refl
+pub looked_number_lem : (o : Option Refusal) (octet : ℕ) → looked_number (looked_of o octet) ≡ numbered o
+looked_number_lem none octet = refl
+looked_number_lem (some r) octet = refl
 
-pub looked_octet : (o : Option Refusal) (octet : ℕ) → looked_octet (looked_of o octet) ≡ cond (accepted o) octet 0
-looked_octet none octet = refl
-looked_octet (some r) octet = refl
+pub looked_octet_lem : (o : Option Refusal) (octet : ℕ) → looked_octet (looked_of o octet) ≡ cond (accepted o) octet 0
+looked_octet_lem none octet = refl
+looked_octet_lem (some r) octet = refl
 
 abbrev pub stepped_of : Option Refusal → ℕ → StepAnswer
 stepped_of none n = stepped.Written n

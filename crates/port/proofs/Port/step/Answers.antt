@@ -1,0 +1,29 @@
+-- `port::Port::step` meets its contract: the timetable travels, what the frame met is read back from the changes written, and each part of the port goes on
+-- to where that ends.
+-- Assumes nothing.
+use Rattle.std.proofs.Common.{rules}
+use Rattle.port.proofs.Travelling.{step_stays, legible, step-goes, step_still}
+use Rattle.port.proofs.Port.step.Goals as goal
+
+pub returns-then-not-f-due : goal.returns-then-not-f-due
+returns-then-not-f-due c =
+    let a = c.args in
+    step_still a.self a.goal a.instants.now _ a.octets.now _ _ c.frame_formed-sent.ensures c.travel-c.result c.travel-c.ensures _ _ c.in-Goes.is
+    c.if-not-f-due.true
+
+pub met_on-hit-requires : goal.met_on-hit-requires
+met_on-hit-requires c =
+    let a = c.args in
+    legible a.self a.goal a.instants.now _ a.octets.now _ _ c.frame_formed-sent.ensures c.travel-c.result c.travel-c.ensures _ _ c.in-Goes.is
+
+pub returns-in-Stays : goal.returns-in-Stays
+returns-in-Stays c =
+    let a = c.args in
+    step_stays a.self a.goal a.instants.now _ a.octets.now _ _ c.frame_formed-sent.ensures c.travel-c.result c.travel-c.ensures _ c.in-Stays.is
+
+pub returns-else-not-f-due : goal.returns-else-not-f-due
+returns-else-not-f-due c =
+    let a = c.args in
+    step-goes a.self a.goal a.instants.now _ a.octets.now _ _ c.frame_formed-sent.ensures c.travel-c.result c.travel-c.ensures _ _ c.in-Goes.is
+    c.met_on-hit.result c.met_on-hit.ensures c.counted-overruns.result c.counted-overruns.ensures c.marked-seen.result c.marked-seen.ensures
+    c.forgotten-frame.result c.forgotten-frame.ensures c.moved-gates.result c.moved-gates.ensures

@@ -1,0 +1,10 @@
+-- `port::Port::transmit` meets its contract: the decision on the record's parts, whose frame is stored.
+-- Assumes nothing.
+use Rattle.std.proofs.Common.{rules}
+use Rattle.port.proofs.Transmissions.{transmit_stores}
+use Rattle.port.proofs.Port.transmit.Goals as goal
+
+pub returns : goal.returns
+returns c =
+    let a = c.args in
+    transmit_stores a.heads a.speed a.self c.decide-d.result c.decide-d.ensures

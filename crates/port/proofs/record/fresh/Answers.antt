@@ -1,0 +1,11 @@
+-- `port::record::fresh` meets its contract: no frame, a new timetable, zero counters.
+-- Assumes nothing.
+use Rattle.std.proofs.Common.{rules}
+use Rattle.rule.specs.Port.{new_port}
+use Rattle.port.specs.Coding.{encode}
+use Rattle.port.proofs.record.fresh.Goals as goal
+
+pub returns : goal.returns
+unfolding encode new_port
+returns c =
+    rw (c.no_frame-frame.ensures, c.fresh-gates.ensures)

@@ -96,7 +96,7 @@ unfolding encode timetable.encode
 recorded_demand t₀ s₀ h cs =
     let s : Sound (new_port t₀ s₀) = sound-new t₀ s₀ h in
     let o : Outcome model.Port ℕ rule.Act = series.run machine (machine_calls cs) (new_port t₀ s₀) in
-    let d = port.demand-3 t₀ s₀ (machine_calls cs) in
+    let d = port.demand_3 t₀ s₀ (machine_calls cs) in
     let z : Sound o.port = sound-run (machine_calls cs) (new_port t₀ s₀) s in
     record {
       given = sym (run_is cs (new_port t₀ s₀) s);

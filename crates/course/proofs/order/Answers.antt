@@ -1,6 +1,6 @@
 -- `course::order` meets its contract: a chain of tests answers what their order declines with.
 -- Assumes nothing.
-use Rattle.std.proofs.Common.{ltb, ap, rules}
+use Rattle.std.proofs.Common.{ltb, ap}
 use Rattle.course.proofs.WaysOut.{order_is}
 use Rattle.course.proofs.order.Goals as goal
 

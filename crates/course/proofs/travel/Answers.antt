@@ -1,6 +1,6 @@
 -- `course::travel` meets its contract: its order refuses, or the walk from the clock is the travel.
 -- Assumes nothing.
-use Rattle.std.proofs.Common.{refl, rules}
+use Rattle.std.proofs.Common.{refl}
 use Rattle.timetable.specs.declared.Timetable.{Timetable}
 use Rattle.course.proofs.WaysOut.{order_refuses, order-accepts, travel-accepted, accepted-fine, travel-stays, travel-goes}
 use Rattle.course.proofs.travel.Goals as goal

@@ -1,7 +1,6 @@
 -- `driver::framed_of` meets its contract: the decision, with its answer in numbers.
 -- Assumes nothing.
 use mathlib.Core.Path.{refl}
-use borrow.Author.Rules.{rules}
 use Rattle.driver.proofs.framed_of.Goals as goal
 
 pub returns : goal.returns

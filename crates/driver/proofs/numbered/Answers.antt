@@ -2,7 +2,6 @@
 -- Assumes nothing.
 use mathlib.Core.Path.{ap, sym, ◌∙◌}
 use Rattle.driver.specs.Lent.{answer_for}
-use borrow.Author.Rules.{rules}
 use Rattle.driver.proofs.numbered.Goals as goal
 
 pub returns-in-Frame : goal.returns-in-Frame

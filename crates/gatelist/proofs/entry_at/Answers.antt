@@ -1,6 +1,4 @@
-use mathlib.Core.Path.{◌≡◌}
-use mathlib.Core.List.{List}
-use Prim.Native.Nat.{ℕ, ◌≤◌, ◌-◌, ◌*◌}
+use Prim.Native.Nat.{ℕ, ◌-◌}
 use native.Mathlib.Omega.{arith}
 use borrow.Author.Rules.{rules}
 use Rattle.gatelist.specs.Lookup.{sum_to}
@@ -34,8 +32,8 @@ returns c =
     let s : ℕ = a.offset - l.rest in
     found-place is a.len a.offset m s c.interval_at.result
     (elim c.if-len-i.branch [
-      then-len-i w ↦ found-last is a.len l.i a.offset s m l.invariant.sum (omega arith) (omega arith) (omega arith) (omega arith)
-    | else-len-i+then-i-eq-MAX w ↦ found_past is a.len l.i a.offset s m l.invariant.sum (omega arith) (omega arith) (omega arith) (omega arith)
-    | else-len-i+else-i-eq-MAX+then-rest-interval w ↦ found_in is a.len l.i a.offset s m l.invariant.sum (omega arith) (omega arith) (omega arith) (omega arith)
+      | then-len-i w ↦ found-last is a.len l.i a.offset s m l.invariant.sum (omega arith) (omega arith) (omega arith) (omega arith)
+      | else-len-i+then-i-eq-MAX w ↦ found_past is a.len l.i a.offset s m l.invariant.sum (omega arith) (omega arith) (omega arith) (omega arith)
+      | else-len-i+else-i-eq-MAX+then-rest-interval w ↦ found_in is a.len l.i a.offset s m l.invariant.sum (omega arith) (omega arith) (omega arith) (omega arith)
     ])
     v.value

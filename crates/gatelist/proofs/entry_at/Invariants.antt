@@ -2,13 +2,9 @@
 -- measure is what is left of the list. Each way out of the loop knows the entry's number.
 -- Assumes nothing.
 use mathlib.Core.Path.{◌≡◌}
-use mathlib.Core.Logic.{⊎_elim}
 use mathlib.Core.List.{List}
 use Prim.Native.Nat.{ℕ, ◌≤◌, ◌-◌, ◌*◌}
-use native.Mathlib.Omega.{arith}
-use borrow.Author.Rules.{rules}
 use Rattle.gatelist.specs.Lookup.{sum_to}
-use Rattle.gatelist.proofs.Lookup.{sum_more, found_in, found-last, found_past, found-place}
 use Rattle.gatelist.proofs.entry_at.Given as goal
 
 pub record Inv (intervals : List ℕ) (len offset rest i : ℕ) : Type 0 where

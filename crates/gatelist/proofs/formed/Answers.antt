@@ -1,7 +1,6 @@
 -- `gatelist::formed` meets its contract: each branch makes the tests of its side of the definition.
 -- Assumes nothing.
 use mathlib.Core.Path.{ap, sym, ◌∙◌}
-use borrow.Author.Rules.{rules}
 use Rattle.gatelist.specs.Sound.{list_formed}
 use Rattle.gatelist.proofs.Sound.{ok_test, none_test}
 use Rattle.gatelist.proofs.formed.Goals as goal

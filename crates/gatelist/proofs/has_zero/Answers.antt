@@ -1,6 +1,5 @@
 -- `gatelist::has_zero` meets its contract: the 128 places and the length together say it of the list.
 -- Assumes nothing.
-use borrow.Author.Rules.{rules}
 use Rattle.gatelist.proofs.Sound.{zero-found}
 use Rattle.gatelist.proofs.has_zero.Goals as goal
 

@@ -1,15 +1,12 @@
 -- `gatelist::intervals_clear` meets its contract: the loop's invariant is that `clear` says it of the places before i; the measure is what is left of the 128
 -- places.
 -- Assumes nothing.
-use mathlib.Core.Path.{◌≡◌, ap, ◌∙◌}
+use mathlib.Core.Path.{◌≡◌}
 use mathlib.Core.Bool.{Bool}
 use mathlib.Core.List.{List}
 use Prim.Native.Nat.{ℕ, ◌≤◌, ◌-◌, min}
-use native.Mathlib.Omega.{arith}
-use borrow.Author.Rules.{rules}
 use Rattle.gatelist.specs.Sound.{every_below}
 use Rattle.gatelist.specs.Places.{rest_ok}
-use Rattle.gatelist.proofs.Sound.{rest-start, rest_more}
 use Rattle.gatelist.proofs.intervals_clear.Given as goal
 
 pub record Inv (intervals : List ℕ) (len n : ℕ) (clear : Bool) (i : ℕ) : Type 0 where

@@ -1,15 +1,12 @@
 -- `gatelist::intervals_ok` meets its contract: the loop's invariant is that `zero` denies it of the places before i; the measure is what is left of the used
 -- places.
 -- Assumes nothing.
-use mathlib.Core.Path.{◌≡◌, refl, ap, ◌∙◌}
+use mathlib.Core.Path.{◌≡◌}
 use mathlib.Core.Bool.{Bool, not}
 use mathlib.Core.List.{List}
 use Prim.Native.Nat.{ℕ, ◌≤◌, ◌-◌, min}
-use native.Mathlib.Omega.{arith}
-use borrow.Author.Rules.{rules}
 use Rattle.gatelist.specs.Sound.{every_below}
 use Rattle.gatelist.specs.Places.{used_ok}
-use Rattle.gatelist.proofs.Sound.{twice, used-more, used-end}
 use Rattle.gatelist.proofs.intervals_ok.Given as goal
 
 pub record Inv (intervals : List ℕ) (len n : ℕ) (zero : Bool) (i : ℕ) : Type 0 where

@@ -2,7 +2,6 @@
 -- reads as 0.
 -- Assumes nothing.
 use native.Mathlib.Omega.{arith}
-use borrow.Author.Rules.{rules}
 use Rattle.gatelist.proofs.Lookup.{octet_none, octet-found, octet_beyond}
 use Rattle.gatelist.proofs.octet_at.Goals as goal
 

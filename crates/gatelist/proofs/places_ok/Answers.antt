@@ -1,6 +1,5 @@
 -- `gatelist::places_ok` meets its contract: a place is good by three tests, each made of all places in a loop of its own.
 -- Assumes nothing.
-use borrow.Author.Rules.{rules}
 use Rattle.gatelist.proofs.Sound.{places_three}
 use Rattle.gatelist.proofs.places_ok.Goals as goal
 

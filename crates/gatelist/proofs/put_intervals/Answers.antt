@@ -1,10 +1,8 @@
-use mathlib.Core.Path.{◌≡◌, refl}
-use mathlib.Core.List.{List}
-use Prim.Native.Nat.{ℕ, ◌≤◌, ◌-◌, min}
+use mathlib.Core.Path.{refl}
 use native.Mathlib.Omega.{arith}
 use borrow.Author.Rules.{rules}
-use lib.ListN.{length, get_or}
-use Rattle.gatelist.proofs.Coding.{Filled, filled_none, filled_more, filled_all}
+use lib.ListN.{get_or}
+use Rattle.gatelist.proofs.Coding.{filled_none, filled_more, filled_all}
 use Rattle.gatelist.proofs.put_intervals.Goals as goal
 
 pub loop-i-init : goal.loop-i-init

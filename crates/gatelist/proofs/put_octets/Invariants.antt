@@ -1,13 +1,11 @@
 -- `gatelist::put_octets` meets its contract: the loop's invariant is that the array holds the first i places of the lent one and zeros; the measure is what is
 -- left of the used places.
 -- Assumes nothing.
-use mathlib.Core.Path.{◌≡◌, refl}
+use mathlib.Core.Path.{◌≡◌}
 use mathlib.Core.List.{List}
 use Prim.Native.Nat.{ℕ, ◌≤◌, ◌-◌, min}
-use native.Mathlib.Omega.{arith}
-use borrow.Author.Rules.{rules}
 use lib.ListN.{length, get_or}
-use Rattle.gatelist.proofs.Coding.{Filled, filled_none, filled_more, filled_all}
+use Rattle.gatelist.proofs.Coding.{Filled}
 use Rattle.gatelist.proofs.put_octets.Given as goal
 
 pub record Inv (n used : ℕ) (from into : List ℕ) (i : ℕ) : Type 0 where

@@ -1,6 +1,5 @@
 -- `octets::declined` meets its contract: the list that it hands back is the one of all zeros.
 -- Assumes nothing.
-use borrow.Author.Rules.{rules}
 use Rattle.octets.proofs.declined.Goals as goal
 
 pub returns : goal.returns

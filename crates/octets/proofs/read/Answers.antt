@@ -1,10 +1,7 @@
-use mathlib.Core.Path.{◌≡◌, sym, ◌∙◌}
-use mathlib.Core.List.{List}
-use Prim.Native.Nat.{ℕ, ◌≤◌, ◌-◌}
+use mathlib.Core.Path.{sym, ◌∙◌}
 use native.Mathlib.Omega.{arith}
 use borrow.Author.Rules.{rules}
-use Rattle.octets.specs.Octets.{entry_at, refusal_from, read_refusal}
-use Rattle.gatelist.proofs.Coding.{Filled, filled_none, filled_more}
+use Rattle.gatelist.proofs.Coding.{filled_none, filled_more}
 use Rattle.octets.proofs.Reading.{read_good, read_bad, refusal_more, refusal_entry, refusal_surplus, refusal_end, refusal_none, refusal_many, refusal_start, declined-read, accepted-read}
 use Rattle.octets.proofs.read.Goals as goal
 

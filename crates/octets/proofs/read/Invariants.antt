@@ -1,14 +1,11 @@
 -- `octets::read` meets its contract: the loop's invariant is that i entries are read into the first i places, the others are zero, and what is left of
 -- the order is asked from entry i on; the measure is what is left of the stated length.
 -- Assumes nothing.
-use mathlib.Core.Path.{◌≡◌, sym, ◌∙◌}
+use mathlib.Core.Path.{◌≡◌}
 use mathlib.Core.List.{List}
 use Prim.Native.Nat.{ℕ, ◌≤◌, ◌-◌}
-use native.Mathlib.Omega.{arith}
-use borrow.Author.Rules.{rules}
 use Rattle.octets.specs.Octets.{entry_at, refusal_from, read_refusal}
-use Rattle.gatelist.proofs.Coding.{Filled, filled_none, filled_more}
-use Rattle.octets.proofs.Reading.{read_good, read_bad, refusal_more, refusal_entry, refusal_surplus, refusal_end, refusal_none, refusal_many, refusal_start, declined-read, accepted-read}
+use Rattle.gatelist.proofs.Coding.{Filled}
 use Rattle.octets.proofs.read.Given as goal
 
 pub record Inv (s : List ℕ) (n : ℕ) (gates intervals : List ℕ) (i : ℕ) : Type 0 where

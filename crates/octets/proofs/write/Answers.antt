@@ -1,10 +1,9 @@
-use mathlib.Core.Path.{◌≡◌, refl, ap, ◌∙◌}
-use mathlib.Core.List.{List, ◌++◌}
-use Prim.Native.Nat.{ℕ, ◌≤◌, ◌+◌, ◌-◌, ◌*◌}
+use mathlib.Core.Path.{refl, ap, ◌∙◌}
+use Prim.Native.Nat.{◌+◌}
 use native.Mathlib.Omega.{arith}
 use borrow.Author.Rules.{rules}
-use lib.ListN.{length, drop}
-use Rattle.gatelist.specs.Coding.{list_from, entries_from}
+use lib.ListN.{length}
+use Rattle.gatelist.specs.Coding.{list_from}
 use Rattle.octets.specs.Octets.{octets_of}
 use Rattle.octets.proofs.Writing.{buffer-long, buffer-more, write_none, write_many, write-zero, write-short, write_done}
 use Rattle.octets.proofs.write.Goals as goal

@@ -1,15 +1,12 @@
 -- `octets::write` meets its contract: the loop's invariant is that the octets of the first i entries stand at the front of the buffer and the
 -- rest is as it was; the measure is what is left of the list.
 -- Assumes nothing.
-use mathlib.Core.Path.{◌≡◌, refl, ap, ◌∙◌}
+use mathlib.Core.Path.{◌≡◌}
 use mathlib.Core.List.{List, ◌++◌}
-use Prim.Native.Nat.{ℕ, ◌≤◌, ◌+◌, ◌-◌, ◌*◌}
-use native.Mathlib.Omega.{arith}
-use borrow.Author.Rules.{rules}
+use Prim.Native.Nat.{ℕ, ◌≤◌, ◌-◌, ◌*◌}
 use lib.ListN.{length, drop}
-use Rattle.gatelist.specs.Coding.{list_from, entries_from}
+use Rattle.gatelist.specs.Coding.{entries_from}
 use Rattle.octets.specs.Octets.{octets_of}
-use Rattle.octets.proofs.Writing.{buffer-long, buffer-more, write_none, write_many, write-zero, write-short, write_done}
 use Rattle.octets.proofs.write.Given as goal
 
 pub record Inv (out : List ℕ) (n : ℕ) (o v buffer : List ℕ) (i : ℕ) : Type 0 where

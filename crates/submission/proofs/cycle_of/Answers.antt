@@ -1,6 +1,6 @@
 -- `submission::cycle_of` meets its contract: nothing is divided by 0.
 -- Assumes nothing.
-use Rattle.std.proofs.Common.{◌*◌, ◌/◌, sym, ap₂, rules}
+use Rattle.std.proofs.Common.{◌*◌, ◌/◌, sym, ap₂}
 use native.Mathlib.Nat.{div-zero}
 use Rattle.submission.proofs.cycle_of.Goals as goal
 

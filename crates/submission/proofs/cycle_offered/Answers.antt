@@ -1,6 +1,6 @@
 -- `submission::cycle_offered` meets its contract: its tests are those of the definition.
 -- Assumes nothing.
-use Rattle.std.proofs.Common.{sym, rules, eq-eqb, ne_eqb}
+use Rattle.std.proofs.Common.{sym, eq-eqb, ne_eqb}
 use Rattle.rule.specs.Cycle.{cycle_offered}
 use Rattle.submission.proofs.cycle_offered.Goals as goal
 

@@ -1,6 +1,5 @@
 -- `submission::errors_for` meets its contract: the count goes up, or stays.
 -- Assumes nothing.
-use Rattle.std.proofs.Common.{rules}
 use Rattle.rule.specs.Timetable.{raise}
 use Rattle.submission.specs.Placement.{errors_for}
 use Rattle.submission.proofs.errors_for.Goals as goal

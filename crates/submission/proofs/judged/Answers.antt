@@ -1,6 +1,5 @@
 -- `submission::judged` meets its contract: the chain of tests is the order (`judges`).
 -- Assumes nothing.
-use Rattle.std.proofs.Common.{rules}
 use Rattle.gatelist.proofs.Sound.{zero_listed}
 use Rattle.submission.proofs.Judging.{judges}
 use Rattle.submission.proofs.judged.Goals as goal

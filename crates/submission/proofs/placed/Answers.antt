@@ -1,6 +1,6 @@
 -- `submission::placed` meets its contract: its parts are those of the definition.
 -- Assumes nothing.
-use Rattle.std.proofs.Common.{◌%◌, ap, ◌∙◌, rules}
+use Rattle.std.proofs.Common.{◌%◌, ap, ◌∙◌}
 use Rattle.timetable.specs.Checks.{change_by}
 use Rattle.submission.specs.Placement.{placed_by, placed_times}
 use Rattle.submission.proofs.placed.Goals as goal

@@ -1,6 +1,6 @@
 -- `course::periods::periods_that_fit` meets its contract: a quotient times its divisor is no more than what was divided.
 -- Assumes nothing.
-use Rattle.std.proofs.Common.{◌/◌, div-mul-le_self, arith, rules}
+use Rattle.std.proofs.Common.{◌/◌, div-mul-le_self, arith}
 use Rattle.course.proofs.PlacesAgain.{times_div, times_none}
 use Rattle.course.proofs.periods.periods_that_fit.Goals as goal
 

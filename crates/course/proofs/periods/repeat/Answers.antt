@@ -1,6 +1,6 @@
-use Rattle.std.proofs.Common.{◌≡◌, ◌-◌, subst, arith, rules}
+use Rattle.std.proofs.Common.{◌≡◌, subst, arith}
 use Rattle.course.specs.Period.{WrittenAgain, later, same}
-use Rattle.course.proofs.Doubling.{Doubles, doubles_none, doubles_on, block_instants, block_octets, doubles_more}
+use Rattle.course.proofs.Doubling.{doubles_none, doubles_on, block_instants, block_octets, doubles_more}
 use Rattle.course.proofs.periods.repeat.Goals as goal
 
 pub loop-done-init : goal.loop-done-init

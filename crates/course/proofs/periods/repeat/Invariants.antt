@@ -1,9 +1,8 @@
 -- `course::periods::repeat` meets its contract. The loop's invariant: all is written up to before `done`, and the next places are those of so many rounds
 -- before (`Doubles`). The measure: the places that are left.
 -- Assumes nothing.
-use Rattle.std.proofs.Common.{◌≡◌, ◌-◌, subst, arith, rules}
-use Rattle.course.specs.Period.{WrittenAgain, later, same}
-use Rattle.course.proofs.Doubling.{Doubles, doubles_none, doubles_on, block_instants, block_octets, doubles_more}
+use Rattle.std.proofs.Common.{◌-◌}
+use Rattle.course.proofs.Doubling.{Doubles}
 use Rattle.course.proofs.periods.repeat.Given as goal
 
 abbrev pub invariant-loop-done : goal.invariant-loop-done

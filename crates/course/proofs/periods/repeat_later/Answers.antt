@@ -1,4 +1,4 @@
-use Rattle.std.proofs.Common.{◌≡◌, ◌-◌, ◌≤◌, subst, arith, rules}
+use Rattle.std.proofs.Common.{◌≡◌, subst, arith, rules}
 use Rattle.course.specs.Period.{WrittenAgain, later}
 use Rattle.course.proofs.PlacesAgain.{again_none, again_more}
 use Rattle.course.proofs.periods.repeat_later.Goals as goal

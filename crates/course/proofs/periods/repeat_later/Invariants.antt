@@ -1,8 +1,7 @@
 -- `course::periods::repeat_later` meets its contract. The loop's invariant: the places from n to before i are written. The measure: the places that are left.
 -- Assumes nothing.
-use Rattle.std.proofs.Common.{◌≡◌, ◌-◌, ◌≤◌, subst, arith, rules}
+use Rattle.std.proofs.Common.{◌-◌, ◌≤◌}
 use Rattle.course.specs.Period.{WrittenAgain, later}
-use Rattle.course.proofs.PlacesAgain.{again_none, again_more}
 use Rattle.course.proofs.periods.repeat_later.Given as goal
 
 abbrev pub invariant-loop-i : goal.invariant-loop-i

@@ -1,4 +1,4 @@
-use Rattle.std.proofs.Common.{◌≡◌, ◌-◌, ◌≤◌, refl, subst, arith, rules}
+use Rattle.std.proofs.Common.{◌≡◌, refl, subst, arith, rules}
 use Rattle.course.specs.Period.{WrittenAgain, same}
 use Rattle.course.proofs.PlacesAgain.{again_none, again_more}
 use Rattle.course.proofs.periods.repeat_same.Goals as goal

@@ -1,7 +1,6 @@
 -- `course::periods::walk_long` meets its contract: the first instant finds no room, or the round does not, or the stretch goes on after them by rounds.
 -- Assumes nothing.
-use Rattle.std.proofs.Common.{arith, rules}
-use Rattle.course.proofs.ByPeriods.{base_runs, reportable_first, reportable_round, reportable_after, round_none, round_full, round_more}
+use Rattle.course.proofs.ByPeriods.{reportable_first, reportable_round, reportable_after, round_none, round_full, round_more}
 use Rattle.course.proofs.periods.walk_long.Goals as goal
 
 pub walk_list-a-requires : goal.walk_list-a-requires

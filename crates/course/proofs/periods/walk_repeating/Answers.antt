@@ -1,6 +1,6 @@
 -- `course::periods::walk_repeating` meets its contract: the periods written again end with the stretch, or the rest of it is walked.
 -- Assumes nothing.
-use Rattle.std.proofs.Common.{◌+◌, arith, rules}
+use Rattle.std.proofs.Common.{◌+◌, arith}
 use Rattle.course.proofs.ByPeriods.{reportable_rest, repeated_edge, repeated_rest}
 use Rattle.course.proofs.periods.walk_repeating.Goals as goal
 

@@ -2,7 +2,6 @@
 -- rounds if there are many.
 -- Assumes nothing.
 use Rattle.course.proofs.ByEntries.{walks_uniform}
-use Rattle.std.proofs.Common.{rules}
 use Rattle.course.proofs.periods.walk_ruled.Goals as goal
 
 pub returns-then-uniform : goal.returns-then-uniform

@@ -1,7 +1,7 @@
 -- `course::periods::whole_periods` meets its contract: as many periods as fit in the time and in the free places are written again.
 -- Assumes nothing.
-use Rattle.std.proofs.Common.{◌-◌, length, refl, ap, ◌∙◌, arith, rules}
-use Rattle.course.proofs.PlacesAgain.{free_fits, free_can_repeat}
+use Rattle.std.proofs.Common.{◌-◌, length, refl, ap, ◌∙◌, arith}
+use Rattle.course.proofs.PlacesAgain.{free_can_repeat}
 use Rattle.course.proofs.ByPeriods.{gone_since}
 use Rattle.course.proofs.periods.whole_periods.Goals as goal
 

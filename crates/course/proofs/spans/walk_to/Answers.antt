@@ -1,4 +1,4 @@
-use Rattle.std.proofs.Common.{◌≡◌, ◌+◌, ◌-◌, ◌<◌, ◌≤◌, length, refl, subst, arith, rules}
+use Rattle.std.proofs.Common.{◌≡◌, ◌+◌, ◌-◌, refl, subst, arith, rules}
 use mathlib.Core.Path.{subst⁻¹}
 use Rattle.timetable.specs.declared.Timetable.{Timetable}
 use Rattle.course.specs.Journey.{journey_of, WrittenUpTo, WalkEnds}

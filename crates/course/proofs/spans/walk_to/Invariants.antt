@@ -1,12 +1,7 @@
 -- `course::spans::walk_to` meets its contract. The loop's invariant: every change before t is written. The measure: the instants left to the goal.
 -- Assumes nothing.
-use Rattle.std.proofs.Common.{◌≡◌, ◌+◌, ◌-◌, ◌<◌, ◌≤◌, length, refl, subst, arith, rules}
-use mathlib.Core.Path.{subst⁻¹}
-use Rattle.timetable.specs.declared.Timetable.{Timetable}
-use Rattle.course.specs.Journey.{journey_of, WrittenUpTo, WalkEnds}
-use Rattle.timetable.proofs.Records.{in_time}
-use Rattle.course.proofs.BySpans.{span_ahead}
-use Rattle.course.proofs.ChangesWritten.{written_start, written-goal}
+use Rattle.std.proofs.Common.{◌≡◌, ◌+◌, ◌-◌, ◌<◌, ◌≤◌, length}
+use Rattle.course.specs.Journey.{journey_of, WrittenUpTo}
 use Rattle.course.proofs.spans.walk_to.Given as goal
 
 abbrev pub invariant-loop-t : goal.invariant-loop-t

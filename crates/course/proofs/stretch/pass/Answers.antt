@@ -1,6 +1,6 @@
 -- `course::stretch::pass` meets its contract: nothing changes, or a change finds no room in one of the buffers, or is written in both.
 -- Assumes nothing.
-use Rattle.std.proofs.Common.{arith, rules}
+use Rattle.std.proofs.Common.{arith}
 use Rattle.course.proofs.ChangesWritten.{passes_same, passes_full, passes-more}
 use Rattle.course.proofs.stretch.pass.Goals as goal
 

@@ -1,5 +1,4 @@
-use Rattle.std.proofs.Common.{◌≡◌, ◌-◌, ◌≤◌, true, get_or, refl, arith, rules}
-use Rattle.course.specs.Stretch.{Uniform}
+use Rattle.std.proofs.Common.{refl, arith}
 use Rattle.course.proofs.ByEntries.{uniform-more}
 use Rattle.course.proofs.stretch.uniform.Goals as goal
 

@@ -1,8 +1,7 @@
 -- `course::stretch::uniform` meets its contract. The loop's invariant: if all so far are alike, the octets before i are one. The measure: the places left.
 -- Assumes nothing.
-use Rattle.std.proofs.Common.{◌≡◌, ◌-◌, ◌≤◌, true, get_or, refl, arith, rules}
+use Rattle.std.proofs.Common.{◌≡◌, ◌-◌, ◌≤◌, true, get_or}
 use Rattle.course.specs.Stretch.{Uniform}
-use Rattle.course.proofs.ByEntries.{uniform-more}
 use Rattle.course.proofs.stretch.uniform.Given as goal
 
 abbrev pub invariant-loop-i : goal.invariant-loop-i

@@ -1,6 +1,5 @@
-use Rattle.std.proofs.Common.{◌≡◌, ◌-◌, length, refl, arith, rules}
+use Rattle.std.proofs.Common.{refl, arith, rules}
 use Rattle.timetable.proofs.Stretches.{stretch_advances, advances_less}
-use Rattle.course.specs.Stretch.{Keeps}
 use Rattle.course.proofs.ByEntries.{keeps_start, walks_list, keeps_full, keeps_edge, keeps_more}
 use Rattle.course.proofs.stretch.walk_list.Goals as goal
 

@@ -1,10 +1,8 @@
 -- `course::stretch::walk_list` meets its contract. The loop's invariant: a cursor on its way to the edge, and all changes before it written. The measure:
 -- what is left of the stretch from the cursor on.
 -- Assumes nothing.
-use Rattle.std.proofs.Common.{◌≡◌, ◌-◌, length, refl, arith, rules}
-use Rattle.timetable.proofs.Stretches.{stretch_advances, advances_less}
+use Rattle.std.proofs.Common.{◌≡◌, ◌-◌, length}
 use Rattle.course.specs.Stretch.{Keeps}
-use Rattle.course.proofs.ByEntries.{keeps_start, walks_list, keeps_full, keeps_edge, keeps_more}
 use Rattle.course.proofs.stretch.walk_list.Given as goal
 
 abbrev pub invariant-loop-w : goal.invariant-loop-w

@@ -1,17 +1,10 @@
 -- `frames::ahead::ended_by` meets its contract: the octet is formed bit by bit. The loop's invariant: the bits of the classes before k are formed. The
 -- measure: the classes left.
 -- Assumes nothing.
-use borrow.Author.Rules.{rules}
-use mathlib.Core.Path.{◌≡◌, ap, subst}
-use mathlib.Core.Bool.{◌&&◌}
 use mathlib.Core.List.{List}
 use Prim.Native.Nat.{ℕ, ◌-◌, ◌≤◌}
-use native.Mathlib.Omega.{arith}
-use lib.Dec.{leb}
-use lib.ListN.{get_or}
 use Rattle.frames.specs.Ahead.{closed_by}
 use Rattle.frames.specs.Choosing.{Forms}
-use Rattle.frames.proofs.Octets.{forms_none, forms_more}
 use Rattle.frames.proofs.ahead.ended_by.Given as goal
 
 pub record Inv (octet : ℕ) (ends : List ℕ) (at q k : ℕ) : Type 0 where

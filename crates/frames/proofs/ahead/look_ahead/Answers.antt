@@ -1,10 +1,8 @@
-use borrow.Author.Rules.{rules}
-use Prim.Native.Nat.{◌-◌, ◌≤◌}
 use native.Mathlib.Omega.{arith}
 use Rattle.rule.specs.Timetable.{shown}
 use Rattle.timetable.specs.Coding.{decode}
 use Rattle.timetable.specs.declared.Timetable.{Timetable}
-use Rattle.frames.specs.Ahead.{Tells, SweepsSpan}
+use Rattle.frames.specs.Ahead.{SweepsSpan}
 use Rattle.frames.proofs.Closing.{tells_start, tells_less, tells_all, spans_on}
 use Rattle.frames.proofs.ahead.look_ahead.Goals as goal
 

@@ -1,13 +1,9 @@
 -- `frames::ahead::look_ahead` meets its contract. The loop's invariant: what is known of the gates before t. The measure: the instants left to last.
 -- Assumes nothing.
-use borrow.Author.Rules.{rules}
 use Prim.Native.Nat.{◌-◌, ◌≤◌}
-use native.Mathlib.Omega.{arith}
 use Rattle.rule.specs.Timetable.{shown}
 use Rattle.timetable.specs.Coding.{decode}
-use Rattle.timetable.specs.declared.Timetable.{Timetable}
-use Rattle.frames.specs.Ahead.{Tells, SweepsSpan}
-use Rattle.frames.proofs.Closing.{tells_start, tells_less, tells_all, spans_on}
+use Rattle.frames.specs.Ahead.{Tells}
 use Rattle.frames.proofs.ahead.look_ahead.Given as goal
 
 abbrev pub invariant-loop-t : goal.invariant-loop-t

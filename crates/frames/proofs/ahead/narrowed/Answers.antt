@@ -1,6 +1,5 @@
 -- `frames::ahead::narrowed` meets its contract: the octet closes none of the classes that are left, or it closes some.
 -- Assumes nothing.
-use borrow.Author.Rules.{rules}
 use Rattle.frames.proofs.Closing.{narrows_none, narrows_some}
 use Rattle.frames.proofs.ahead.narrowed.Goals as goal
 

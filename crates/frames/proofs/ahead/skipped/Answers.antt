@@ -1,7 +1,4 @@
-use borrow.Author.Rules.{rules}
-use Prim.Native.Nat.{◌-◌}
 use native.Mathlib.Omega.{arith}
-use Rattle.frames.specs.Ahead.{Skips}
 use Rattle.frames.proofs.Closing.{skips_start, skips_more}
 use Rattle.frames.proofs.ahead.skipped.Goals as goal
 

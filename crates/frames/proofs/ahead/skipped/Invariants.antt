@@ -1,11 +1,8 @@
 -- `frames::ahead::skipped` meets its contract. The loop's invariant: the walk from the first entry has come to the entry at i (`Skips`). The measure: the entries
 -- left.
 -- Assumes nothing.
-use borrow.Author.Rules.{rules}
 use Prim.Native.Nat.{◌-◌}
-use native.Mathlib.Omega.{arith}
 use Rattle.frames.specs.Ahead.{Skips}
-use Rattle.frames.proofs.Closing.{skips_start, skips_more}
 use Rattle.frames.proofs.ahead.skipped.Given as goal
 
 abbrev pub invariant-loop-i : goal.invariant-loop-i

@@ -1,7 +1,4 @@
-use borrow.Author.Rules.{rules}
-use Prim.Native.Nat.{◌-◌}
 use native.Mathlib.Omega.{arith}
-use Rattle.frames.specs.Ahead.{Goes}
 use Rattle.frames.proofs.Closing.{goes-start, goes-more, goes_skips, skips_after, sweeps_limit, sweeps_end, sweeps_none}
 use Rattle.frames.proofs.ahead.swept.Goals as goal
 

@@ -1,10 +1,7 @@
 -- `frames::ahead::swept` meets its contract. The loop's invariant: the walk from the first entry has come to the entry at i (`Goes`). The measure: the entries left.
 -- Assumes nothing.
-use borrow.Author.Rules.{rules}
 use Prim.Native.Nat.{◌-◌}
-use native.Mathlib.Omega.{arith}
 use Rattle.frames.specs.Ahead.{Goes}
-use Rattle.frames.proofs.Closing.{goes-start, goes-more, goes_skips, skips_after, sweeps_limit, sweeps_end, sweeps_none}
 use Rattle.frames.proofs.ahead.swept.Given as goal
 
 abbrev pub invariant-loop-g : goal.invariant-loop-g

@@ -1,6 +1,5 @@
 -- `frames::ahead::swept_list` meets its contract: the entry that runs, the rest of its cycle, and the next cycle as far as the stretch goes.
 -- Assumes nothing.
-use borrow.Author.Rules.{rules}
 use Prim.Native.Nat.{◌-◌}
 use native.Mathlib.Omega.{arith}
 use Rattle.frames.proofs.Closing.{place-holds, list-first, list_second}

@@ -1,6 +1,5 @@
 -- `frames::ahead::swept_span` meets its contract: the standing octet is shown, or a list over its cycles, of which one is walked.
 -- Assumes nothing.
-use borrow.Author.Rules.{rules}
 use mathlib.Core.Bool.{true, false}
 use native.Mathlib.Omega.{arith}
 use Rattle.timetable.specs.declared.Timetable.{Timetable}

@@ -1,13 +1,11 @@
 use borrow.Author.Rules.{rules}
 use mathlib.Core.Path.{◌≡◌, refl, subst, ◌∙◌}
-use mathlib.Core.List.{List}
-use Prim.Native.Nat.{ℕ, ◌-◌, ◌≤◌}
 use native.Mathlib.Omega.{arith}
-use lib.ListN.{length, length-set}
+use lib.ListN.{length-set}
 use Rattle.rule.proofs.Choice.{speed_range}
 use Rattle.frames.specs.Choosing.{Asks}
-use Rattle.frames.proofs.Classes.{length-short, asks_none, asks_more}
-use Rattle.frames.proofs.Lasting.{gap_times, gap_short}
+use Rattle.frames.proofs.Classes.{asks_none, asks_more}
+use Rattle.frames.proofs.Lasting.{gap_times}
 use Rattle.frames.proofs.choosing.asked.Goals as goal
 
 pub loop-k-init : goal.loop-k-init

@@ -1,15 +1,10 @@
 -- `frames::choosing::asked` meets its contract. The loop's invariant: what the heads before k come to (`Asks`). The measure: the classes left.
 -- Assumes nothing.
-use borrow.Author.Rules.{rules}
-use mathlib.Core.Path.{◌≡◌, refl, subst, ◌∙◌}
+use mathlib.Core.Path.{◌≡◌}
 use mathlib.Core.List.{List}
 use Prim.Native.Nat.{ℕ, ◌-◌, ◌≤◌}
-use native.Mathlib.Omega.{arith}
-use lib.ListN.{length, length-set}
-use Rattle.rule.proofs.Choice.{speed_range}
+use lib.ListN.{length}
 use Rattle.frames.specs.Choosing.{Asks}
-use Rattle.frames.proofs.Classes.{length-short, asks_none, asks_more}
-use Rattle.frames.proofs.Lasting.{gap_times, gap_short}
 use Rattle.frames.proofs.choosing.asked.Given as goal
 
 pub record Inv (speed t : ℕ) (heads : List ℕ) (wanted last : ℕ) (each : List ℕ) (k : ℕ) : Type 0 where

@@ -1,8 +1,6 @@
 -- `frames::choosing::frame_for` meets its contract: the octet has no class, or the frame of its highest one is made.
 -- Assumes nothing.
-use borrow.Author.Rules.{rules}
 use mathlib.Core.Path.{◌∙◌}
-use native.Mathlib.Omega.{arith}
 use Rattle.frames.proofs.Classes.{begins_none, begins-top}
 use Rattle.frames.proofs.choosing.frame_for.Goals as goal
 

@@ -1,7 +1,6 @@
 -- `frames::choosing::with_bit` meets its contract: one bit is set, or none.
 -- Assumes nothing.
 use Rattle.frames.proofs.Octets.{sets_bit, sets_none}
-use borrow.Author.Rules.{rules}
 use Rattle.frames.proofs.choosing.with_bit.Goals as goal
 
 pub returns-then-bit : goal.returns-then-bit

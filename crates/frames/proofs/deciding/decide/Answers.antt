@@ -1,6 +1,5 @@
 -- `frames::deciding::decide` meets its contract: refused in the order of Transmit, or the chosen frame.
 -- Assumes nothing.
-use borrow.Author.Rules.{rules}
 use mathlib.Core.Path.{◌∙◌}
 use Rattle.timetable.specs.declared.Timetable.{Timetable}
 use Rattle.frames.proofs.Decisions.{refusal_is, sent-fine, decides-refused, decides-done}

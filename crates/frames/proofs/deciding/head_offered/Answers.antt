@@ -1,6 +1,5 @@
 -- `frames::deciding::head_offered` meets its contract: 0, or a frame's length.
 -- Assumes nothing.
-use borrow.Author.Rules.{rules}
 use Rattle.frames.proofs.Decisions.{head_test}
 use Rattle.frames.proofs.deciding.head_offered.Goals as goal
 

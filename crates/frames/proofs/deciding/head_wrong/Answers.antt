@@ -1,10 +1,7 @@
-use mathlib.Core.Path.{◌≡◌, refl, ap, sym}
-use mathlib.Core.Bool.{Bool, not, ◌||◌}
-use mathlib.Core.List.{List}
-use Prim.Native.Nat.{ℕ, ◌-◌, ◌≤◌}
+use mathlib.Core.Path.{refl, ap, sym}
+use mathlib.Core.Bool.{not}
 use native.Mathlib.Omega.{arith}
-use lib.ListN.{length, drop}
-use Rattle.rule.specs.Orders.{any, head_offered}
+use Rattle.rule.specs.Orders.{head_offered}
 use Rattle.frames.proofs.Decisions.{any-more, any-done}
 use borrow.Author.Rules.{rules}
 use Rattle.frames.proofs.deciding.head_wrong.Goals as goal

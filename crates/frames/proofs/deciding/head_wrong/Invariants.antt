@@ -1,14 +1,11 @@
 -- `frames::deciding::head_wrong` meets its contract. The loop's invariant: a head is wrong if one before k is, or one from k on. The measure: the heads left.
 -- Assumes nothing.
-use mathlib.Core.Path.{◌≡◌, refl, ap, sym}
+use mathlib.Core.Path.{◌≡◌}
 use mathlib.Core.Bool.{Bool, not, ◌||◌}
 use mathlib.Core.List.{List}
 use Prim.Native.Nat.{ℕ, ◌-◌, ◌≤◌}
-use native.Mathlib.Omega.{arith}
 use lib.ListN.{length, drop}
 use Rattle.rule.specs.Orders.{any, head_offered}
-use Rattle.frames.proofs.Decisions.{any-more, any-done}
-use borrow.Author.Rules.{rules}
 use Rattle.frames.proofs.deciding.head_wrong.Given as goal
 
 pub record Inv (heads : List ℕ) (wrong : Bool) (k : ℕ) : Type 0 where

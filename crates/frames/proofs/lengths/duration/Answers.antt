@@ -1,6 +1,5 @@
 -- `frames::lengths::duration` meets its contract: refused for the speed, refused for the length, or both times.
 -- Assumes nothing.
-use borrow.Author.Rules.{rules}
 use native.Mathlib.Omega.{arith}
 use Rattle.rule.proofs.Choice.{speed_range}
 use mathlib.Core.Path.{ap}

@@ -1,6 +1,5 @@
 -- `frames::sent::frame_formed` meets its contract: its tests are those of the definition.
 -- Assumes nothing.
-use borrow.Author.Rules.{rules}
 use Rattle.frames.specs.Frame.{frame_formed, frame_ok, frame_none}
 use Rattle.frames.proofs.sent.frame_formed.Goals as goal
 

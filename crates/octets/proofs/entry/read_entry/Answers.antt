@@ -1,7 +1,6 @@
 -- `octets::entry::read_entry` meets its contract: each way out is one step of the entry's order.
 -- Assumes nothing.
 use native.Mathlib.Omega.{arith}
-use borrow.Author.Rules.{rules}
 use Rattle.octets.proofs.Reading.{short_header, bad_operation, bad_length, short_body, bad_interval, good_entry}
 use Rattle.octets.proofs.entry.read_entry.Goals as goal
 

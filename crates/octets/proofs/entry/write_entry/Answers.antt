@@ -2,7 +2,6 @@
 -- Assumes nothing.
 use native.Mathlib.Omega.{arith}
 use lib.ListN.{length-set}
-use borrow.Author.Rules.{rules}
 use Rattle.octets.proofs.Writing.{seven_stores}
 use Rattle.octets.proofs.entry.write_entry.Goals as goal
 

@@ -1,6 +1,6 @@
 -- `port::Port::look` meets its contract: one law for each way out.
 -- Assumes nothing.
-use Rattle.std.proofs.Common.{sym, ◌∙◌, rules}
+use Rattle.std.proofs.Common.{sym, ◌∙◌}
 use Rattle.port.proofs.Coding.{checked}
 use Rattle.port.proofs.Instants.{look-malformed, look_above, look-before, look-done}
 use Rattle.port.proofs.Port.look.Goals as goal

@@ -1,6 +1,5 @@
 -- `port::Port::new` meets its contract: one law for each way out.
 -- Assumes nothing.
-use Rattle.std.proofs.Common.{rules}
 use Rattle.port.proofs.Performing.{new-refused, new-done}
 use Rattle.port.proofs.Port.new.Goals as goal
 

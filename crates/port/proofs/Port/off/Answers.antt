@@ -1,6 +1,6 @@
 -- `port::Port::off` meets its contract: one law for each way out, shared by the acts, and what the act makes of the timetable.
 -- Assumes nothing.
-use Rattle.std.proofs.Common.{sym, refl, ◌∙◌, rules}
+use Rattle.std.proofs.Common.{sym, refl, ◌∙◌}
 use Rattle.rule.specs.Acts as model
 use Rattle.rule.specs.Orders.{accepts}
 use Rattle.timetable.proofs.Records.{off-is}

@@ -1,7 +1,6 @@
 -- `port::Port::step` meets its contract: the timetable travels, what the frame met is read back from the changes written, and each part of the port goes on
 -- to where that ends.
 -- Assumes nothing.
-use Rattle.std.proofs.Common.{rules}
 use Rattle.port.proofs.Travelling.{step_stays, legible, step-goes, step_still}
 use Rattle.port.proofs.Port.step.Goals as goal
 

@@ -1,6 +1,5 @@
 -- `port::Port::transmit` meets its contract: the decision on the record's parts, whose frame is stored.
 -- Assumes nothing.
-use Rattle.std.proofs.Common.{rules}
 use Rattle.port.proofs.Transmissions.{transmit_stores}
 use Rattle.port.proofs.Port.transmit.Goals as goal
 

@@ -1,6 +1,6 @@
 -- `port::overrun::counted` meets its contract: the class is a place of the counters, or nothing changes.
 -- Assumes nothing.
-use Rattle.std.proofs.Common.{◌&&◌, arith, rules, leb-true}
+use Rattle.std.proofs.Common.{◌&&◌, arith, leb-true}
 use Rattle.rule.specs.Timetable as model
 use Rattle.rule.proofs.Orders.{both}
 use Rattle.timetable.specs.Record.{is_marked}

@@ -1,6 +1,5 @@
 -- `port::overrun::shut` meets its contract: its tests are those of the definition (`shut-is`).
 -- Assumes nothing.
-use Rattle.std.proofs.Common.{rules}
 use Rattle.port.proofs.Overruns.{shut-is}
 use Rattle.port.proofs.overrun.shut.Goals as goal
 

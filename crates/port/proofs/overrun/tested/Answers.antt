@@ -1,6 +1,5 @@
 -- `port::overrun::tested` meets its contract: nothing is sent, or the frame is looked at with the octet shown at the clock.
 -- Assumes nothing.
-use Rattle.std.proofs.Common.{rules}
 use Rattle.port.proofs.Overruns.{tested_none, tested-is}
 use Rattle.port.proofs.overrun.tested.Goals as goal
 

@@ -1,6 +1,5 @@
 -- `port::record::fresh` meets its contract: no frame, a new timetable, zero counters.
 -- Assumes nothing.
-use Rattle.std.proofs.Common.{rules}
 use Rattle.rule.specs.Port.{new_port}
 use Rattle.port.specs.Coding.{encode}
 use Rattle.port.proofs.record.fresh.Goals as goal

@@ -1,6 +1,5 @@
 -- `port::record::well_formed` meets its contract: the timetable's check and the frame's.
 -- Assumes nothing.
-use Rattle.std.proofs.Common.{rules}
 use Rattle.port.proofs.Coding.{checked}
 use Rattle.port.proofs.record.well_formed.Goals as goal
 

@@ -1,6 +1,5 @@
 -- `port::stepping::forgotten` meets its contract: the frame is there and its end has come, or it stays as it is.
 -- Assumes nothing.
-use Rattle.std.proofs.Common.{rules}
 use Rattle.port.proofs.stepping.forgotten.Goals as goal
 
 pub returns-then-f-t : goal.returns-then-f-t

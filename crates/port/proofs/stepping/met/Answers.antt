@@ -1,5 +1,5 @@
-use Rattle.std.proofs.Common.{◌-◌, ◌≤◌, refl, arith, rules}
-use Rattle.port.proofs.Reading.{Back, back_start, back-met, back_over, back_more, back_last}
+use Rattle.std.proofs.Common.{refl, arith}
+use Rattle.port.proofs.Reading.{back_start, back-met, back_over, back_more, back_last}
 use Rattle.port.proofs.stepping.met.Goals as goal
 
 pub loop-i-init : goal.loop-i-init

@@ -1,8 +1,8 @@
 -- `port::stepping::met` meets its contract. The loop's invariant: the changes before place i are behind, and no closed gate was met. The measure: the
 -- changes that are left.
 -- Assumes nothing.
-use Rattle.std.proofs.Common.{◌-◌, ◌≤◌, refl, arith, rules}
-use Rattle.port.proofs.Reading.{Back, back_start, back-met, back_over, back_more, back_last}
+use Rattle.std.proofs.Common.{◌-◌, ◌≤◌}
+use Rattle.port.proofs.Reading.{Back}
 use Rattle.port.proofs.stepping.met.Given as goal
 
 abbrev pub invariant-loop-i : goal.invariant-loop-i

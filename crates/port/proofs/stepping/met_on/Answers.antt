@@ -1,6 +1,6 @@
 -- `port::stepping::met_on` meets its contract: there is no frame, or it is `met` with the octet shown at the clock.
 -- Assumes nothing.
-use Rattle.std.proofs.Common.{rules, ne_eqb}
+use Rattle.std.proofs.Common.{ne_eqb}
 use Rattle.port.proofs.Reading.{none_met}
 use Rattle.port.proofs.stepping.met_on.Goals as goal
 

@@ -1,6 +1,6 @@
 -- `port::stepping::shut_in` meets its contract: it is the test, with the gate that the class has in the octet.
 -- Assumes nothing.
-use Rattle.std.proofs.Common.{not, ◌&&◌, ltb, ap, ◌∙◌, rules}
+use Rattle.std.proofs.Common.{not, ◌&&◌, ltb, ap, ◌∙◌}
 use Rattle.timetable.specs.Record.{is_marked}
 use Rattle.port.proofs.Reading.{shut_in-is}
 use Rattle.port.proofs.stepping.shut_in.Goals as goal

@@ -50,13 +50,13 @@ done-requires c =
     let k = passed a.port (act a.strict a.list a.numerator a.denominator a.extension a.base) _ _ w j c.in_default.is in
     let u : Places a.list = record { octets = search rules; intervals = search rules } in
     let m : c.if-y-eq1.p ≡ encode (performed (act a.strict a.list a.numerator a.denominator a.extension a.base) (decode a.port)) =
-        elim c.if-y-eq1.branch [
-          then-y-eq1 w ↦ placed_waits a.strict a.port k.fine a.list u a.numerator a.denominator a.extension a.base k.accepted c.placed-y.result c.placed-y.ensures
-              _ _ w.put_octets.ensures w.put_intervals.ensures c.if-y-eq1.p w.if-y-eq1.true w.p-is
-        | else-y-eq1 w ↦ placed-operates a.strict a.port k.fine a.list u a.numerator a.denominator a.extension a.base k.accepted c.placed-y.result c.placed-y.ensures
-              _ _ w.put_octets-else-y-eq1.ensures w.put_intervals-else-y-eq1.ensures c.if-y-eq1.p w.if-y-eq1.false _ _
-              w.put_octets-else-y-eq1-2.ensures w.put_intervals-else-y-eq1-2.ensures w.p-is
-        ] in
+    elim c.if-y-eq1.branch [
+      | then-y-eq1 w ↦ placed_waits a.strict a.port k.fine a.list u a.numerator a.denominator a.extension a.base k.accepted c.placed-y.result c.placed-y.ensures
+          _ _ w.put_octets.ensures w.put_intervals.ensures c.if-y-eq1.p w.if-y-eq1.true w.p-is
+      | else-y-eq1 w ↦ placed-operates a.strict a.port k.fine a.list u a.numerator a.denominator a.extension a.base k.accepted c.placed-y.result c.placed-y.ensures
+          _ _ w.put_octets-else-y-eq1.ensures w.put_intervals-else-y-eq1.ensures c.if-y-eq1.p w.if-y-eq1.false _ _
+          w.put_octets-else-y-eq1-2.ensures w.put_intervals-else-y-eq1-2.ensures w.p-is
+    ] in
     act-fine _ a.port k.fine k.accepted _ m
 
 pub returns-then-p-eq1 : goal.returns-then-p-eq1
@@ -67,13 +67,13 @@ returns-then-p-eq1 c =
     let k = passed a.port (act a.strict a.list a.numerator a.denominator a.extension a.base) _ _ w j c.in_default.is in
     let u : Places a.list = record { octets = search rules; intervals = search rules } in
     let m : c.if-y-eq1.p ≡ encode (performed (act a.strict a.list a.numerator a.denominator a.extension a.base) (decode a.port)) =
-        elim c.if-y-eq1.branch [
-          then-y-eq1 w ↦ placed_waits a.strict a.port k.fine a.list u a.numerator a.denominator a.extension a.base k.accepted c.placed-y.result c.placed-y.ensures
-              _ _ w.put_octets.ensures w.put_intervals.ensures c.if-y-eq1.p w.if-y-eq1.true w.p-is
-        | else-y-eq1 w ↦ placed-operates a.strict a.port k.fine a.list u a.numerator a.denominator a.extension a.base k.accepted c.placed-y.result c.placed-y.ensures
-              _ _ w.put_octets-else-y-eq1.ensures w.put_intervals-else-y-eq1.ensures c.if-y-eq1.p w.if-y-eq1.false _ _
-              w.put_octets-else-y-eq1-2.ensures w.put_intervals-else-y-eq1-2.ensures w.p-is
-        ] in
+    elim c.if-y-eq1.branch [
+      | then-y-eq1 w ↦ placed_waits a.strict a.port k.fine a.list u a.numerator a.denominator a.extension a.base k.accepted c.placed-y.result c.placed-y.ensures
+          _ _ w.put_octets.ensures w.put_intervals.ensures c.if-y-eq1.p w.if-y-eq1.true w.p-is
+      | else-y-eq1 w ↦ placed-operates a.strict a.port k.fine a.list u a.numerator a.denominator a.extension a.base k.accepted c.placed-y.result c.placed-y.ensures
+          _ _ w.put_octets-else-y-eq1.ensures w.put_intervals-else-y-eq1.ensures c.if-y-eq1.p w.if-y-eq1.false _ _
+          w.put_octets-else-y-eq1-2.ensures w.put_intervals-else-y-eq1-2.ensures w.p-is
+    ] in
     act-done _ a.port k.fine k.accepted _ m _ k.well c.done.ensures
 
 pub returns : goal.returns
@@ -84,11 +84,11 @@ returns c =
     let k = passed a.port (act a.strict a.list a.numerator a.denominator a.extension a.base) _ _ w j c.in_default.is in
     let u : Places a.list = record { octets = search rules; intervals = search rules } in
     let m : c.if-y-eq1.p ≡ encode (performed (act a.strict a.list a.numerator a.denominator a.extension a.base) (decode a.port)) =
-        elim c.if-y-eq1.branch [
-          then-y-eq1 w ↦ placed_waits a.strict a.port k.fine a.list u a.numerator a.denominator a.extension a.base k.accepted c.placed-y.result c.placed-y.ensures
-              _ _ w.put_octets.ensures w.put_intervals.ensures c.if-y-eq1.p w.if-y-eq1.true w.p-is
-        | else-y-eq1 w ↦ placed-operates a.strict a.port k.fine a.list u a.numerator a.denominator a.extension a.base k.accepted c.placed-y.result c.placed-y.ensures
-              _ _ w.put_octets-else-y-eq1.ensures w.put_intervals-else-y-eq1.ensures c.if-y-eq1.p w.if-y-eq1.false _ _
-              w.put_octets-else-y-eq1-2.ensures w.put_intervals-else-y-eq1-2.ensures w.p-is
-        ] in
+    elim c.if-y-eq1.branch [
+      | then-y-eq1 w ↦ placed_waits a.strict a.port k.fine a.list u a.numerator a.denominator a.extension a.base k.accepted c.placed-y.result c.placed-y.ensures
+          _ _ w.put_octets.ensures w.put_intervals.ensures c.if-y-eq1.p w.if-y-eq1.true w.p-is
+      | else-y-eq1 w ↦ placed-operates a.strict a.port k.fine a.list u a.numerator a.denominator a.extension a.base k.accepted c.placed-y.result c.placed-y.ensures
+          _ _ w.put_octets-else-y-eq1.ensures w.put_intervals-else-y-eq1.ensures c.if-y-eq1.p w.if-y-eq1.false _ _
+          w.put_octets-else-y-eq1-2.ensures w.put_intervals-else-y-eq1-2.ensures w.p-is
+    ] in
     act_quiet _ a.port k.fine k.accepted _ m _ c.in_default.is k.well c.if-p-eq1.false

@@ -1,6 +1,5 @@
 -- `port::submitting::too_late` meets its contract: one test for each kind of submission.
 -- Assumes nothing.
-use Rattle.std.proofs.Common.{rules}
 use Rattle.port.proofs.submitting.too_late.Goals as goal
 
 pub returns-then-strict : goal.returns-then-strict

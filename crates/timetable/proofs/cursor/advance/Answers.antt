@@ -1,6 +1,6 @@
 -- `timetable::cursor::advance` meets its contract: one law for each way out.
 -- Assumes nothing.
-use Rattle.std.proofs.Common.{arith, rules}
+use Rattle.std.proofs.Common.{arith}
 use Rattle.timetable.proofs.Cursors.{advances_wrap, advances_on}
 use Rattle.timetable.proofs.cursor.advance.Goals as goal
 

@@ -1,6 +1,6 @@
 -- `timetable::cursor::cursor_at` meets its contract: one law for each way out, by what the lookup found.
 -- Assumes nothing.
-use Rattle.std.proofs.Common.{ap, ◌∙◌, arith, rules}
+use Rattle.std.proofs.Common.{ap, ◌∙◌, arith}
 use Rattle.gatelist.specs.Lookup.{place_at}
 use Rattle.timetable.proofs.Cursors.{cursor_last, cursor_cut, cursor_whole}
 use Rattle.timetable.proofs.cursor.cursor_at.Goals as goal

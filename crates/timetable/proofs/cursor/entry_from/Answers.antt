@@ -1,6 +1,5 @@
 -- `timetable::cursor::entry_from` meets its contract: one law for each way out.
 -- Assumes nothing.
-use Rattle.std.proofs.Common.{rules}
 use Rattle.timetable.proofs.Cursors.{enters_last, enters_cut, enters_whole}
 use Rattle.timetable.proofs.cursor.entry_from.Goals as goal
 

@@ -1,6 +1,6 @@
 -- `timetable::due::cleared` meets its contract, field by field.
 -- Assumes nothing.
-use Rattle.std.proofs.Common.{ap, rules}
+use Rattle.std.proofs.Common.{ap}
 use Rattle.gatelist.specs.declared.GateList.{GateList}
 use Rattle.timetable.specs.Updates.{cleared_with}
 use Rattle.timetable.proofs.due.cleared.Goals as goal

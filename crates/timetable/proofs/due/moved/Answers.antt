@@ -1,6 +1,6 @@
 -- `timetable::due::moved` meets its contract: what waits is installed, or the clock alone moves.
 -- Assumes nothing.
-use Rattle.std.proofs.Common.{ap, rules}
+use Rattle.std.proofs.Common.{ap}
 use Rattle.gatelist.specs.declared.GateList.{GateList}
 use Rattle.timetable.specs.Updates.{installed_with}
 use Rattle.timetable.proofs.due.moved.Goals as goal

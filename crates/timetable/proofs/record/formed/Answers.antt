@@ -1,6 +1,5 @@
 -- `timetable::record::formed` meets its contract: its parts are those of the definition, and a record that passes them is fine (`checked`).
 -- Assumes nothing.
-use Rattle.std.proofs.Common.{rules}
 use Rattle.timetable.specs.declared.Timetable.{Timetable}
 use Rattle.timetable.specs.Record.{timetable_formed, marks_ok, operating_formed, waiting_formed}
 use Rattle.timetable.proofs.Coding.{checked}

@@ -1,6 +1,5 @@
 -- `timetable::record::fresh` meets its contract: every field of a new timetable's record.
 -- Assumes nothing.
-use Rattle.std.proofs.Common.{rules}
 use Rattle.timetable.proofs.Coding.{new_record}
 use Rattle.timetable.proofs.record.fresh.Goals as goal
 

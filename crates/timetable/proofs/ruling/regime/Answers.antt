@@ -1,6 +1,5 @@
 -- `timetable::ruling::regime` meets its contract: one law for each way out.
 -- Assumes nothing.
-use Rattle.std.proofs.Common.{rules}
 use Rattle.timetable.proofs.Spans.{rules_off, rules_waiting, rules_standing, rules_operating}
 use Rattle.timetable.proofs.ruling.regime.Goals as goal
 

@@ -1,6 +1,6 @@
 -- `timetable::ruling::regime_bent` meets its contract: the last old cycle has begun, or not.
 -- Assumes nothing.
-use Rattle.std.proofs.Common.{[], rules}
+use Rattle.std.proofs.Common.{[]}
 use Rattle.timetable.proofs.Spans.{last-is, bent_last, bent_early}
 use Rattle.timetable.proofs.ruling.regime_bent.Goals as goal
 

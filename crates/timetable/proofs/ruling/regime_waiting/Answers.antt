@@ -1,6 +1,5 @@
 -- `timetable::ruling::regime_waiting` meets its contract: one law for each way out.
 -- Assumes nothing.
-use Rattle.std.proofs.Common.{rules}
 use Rattle.timetable.proofs.Spans.{waiting_installed, waiting_bent, waiting-before}
 use Rattle.timetable.proofs.ruling.regime_waiting.Goals as goal
 

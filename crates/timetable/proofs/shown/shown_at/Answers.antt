@@ -1,6 +1,5 @@
 -- `timetable::shown::shown_at` meets its contract: the span that rules at t is flat, or its list is read from its start.
 -- Assumes nothing.
-use Rattle.std.proofs.Common.{rules}
 use Rattle.timetable.specs.Coding.{decode}
 use Rattle.timetable.proofs.Spans.{shown-flat, shown-new, shown-old}
 use Rattle.timetable.proofs.shown.shown_at.Goals as goal

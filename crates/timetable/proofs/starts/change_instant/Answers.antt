@@ -1,6 +1,6 @@
 -- `timetable::starts::change_instant` meets its contract: the base, or the start after the one that runs just before now.
 -- Assumes nothing.
-use Rattle.std.proofs.Common.{arith, rules}
+use Rattle.std.proofs.Common.{arith}
 use Rattle.timetable.proofs.Beginnings.{change_later, change_past}
 use Rattle.timetable.proofs.starts.change_instant.Goals as goal
 

@@ -1,6 +1,5 @@
 -- `timetable::starts::last_start` meets its contract: the later of the start that covers the change and the one after the submission.
 -- Assumes nothing.
-use Rattle.std.proofs.Common.{rules}
 use Rattle.timetable.proofs.Beginnings.{last_covers, last-next}
 use Rattle.timetable.proofs.starts.last_start.Goals as goal
 

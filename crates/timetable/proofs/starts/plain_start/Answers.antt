@@ -1,6 +1,5 @@
 -- `timetable::starts::plain_start` meets its contract: with no cycle and before the first start nothing is added.
 -- Assumes nothing.
-use Rattle.std.proofs.Common.{◌-◌, div-mul-le_self, arith, rules}
 use Rattle.timetable.proofs.Beginnings.{plain_none, plain_early}
 use Rattle.timetable.proofs.starts.plain_start.Goals as goal
 

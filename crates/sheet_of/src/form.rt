@@ -4,7 +4,7 @@ use gatelist::GateList;
 use octets::Written;
 
 // The fields so far, which of them are given (a bit for each), the entries' octets in use, the line, and the error: 0 is none.
-#[derive(Drop)]
+#[derive(Clone, Copy)]
 pub struct Form {
     pub given: u8,
     pub standing: u64,

@@ -58,9 +58,9 @@ fn places() -> [u8; 65537]
     [0u8; 65537]
 }
 
-fn main() {
+fn main(rt: HostRuntime) {
     let mut taken = places();
-    let Input::Octets(n) = text::take_all(&mut taken) else {
+    let Input::Octets(n) = text::take_all(&rt, &mut taken) else {
         text::complain(b"sheet_of: standard input cannot be read");
         return;
     };

@@ -2,7 +2,7 @@
 ghost use Rattle.std.specs.Prelude.{◌≡◌, ◌<◌, ◌≤◌};
 
 // A word: its first place and the place after its last; both the same if there is none.
-#[derive(Drop)]
+#[derive(Clone, Copy)]
 pub struct Word {
     pub first: usize,
     pub end: usize,

@@ -2,6 +2,8 @@
 ghost use Rattle.std.specs.Prelude.{length};
 ghost use Rattle.text.specs.Input.{Takes};
 
+use std::io::Read;
+
 // What reading gave: so many octets of the buffer are taken, or a read failed.
 #[derive(Drop)]
 pub enum Input {
@@ -10,27 +12,25 @@ pub enum Input {
 }
 
 // Reads once, behind the octets that are taken. The same number as before: the input is at its end, or the buffer is full.
-pub fn take(out: &mut [u8], used: usize) -> Input
+pub fn take(rt: &impl std::io::Input, out: &mut [u8], used: usize) -> Input
     ensures { Takes used (length out.old) result }
 {
     if out.len() <= used {
         return Input::Octets(used);
     }
-    let got = libc::read(0, &mut out[used..]);
-    if got < 0 {
-        return Input::Failed;
+    match rt.reader().read(&mut out[used..]) {
+        Ok(more) => Input::Octets(used + more),
+        Err(_) => Input::Failed,
     }
-    let more = io::count(got, &out[used..]);
-    Input::Octets(used + more)
 }
 
 // Reads until the buffer is full or the input is at its end.
-pub fn take_all(out: &mut [u8]) -> Input
+pub fn take_all(rt: &impl std::io::Input, out: &mut [u8]) -> Input
     ensures { Takes 0 (length out.old) result }
 {
     let mut used: usize = 0;
     while used < out.len() {
-        let Input::Octets(n) = take(out, used) else {
+        let Input::Octets(n) = take(rt, out, used) else {
             return Input::Failed;
         };
         if n <= used {

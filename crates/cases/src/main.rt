@@ -46,9 +46,9 @@ fn rows(table: &[u8]) {
     }
 }
 
-fn main() {
+fn main(rt: HostRuntime) {
     let mut table = [0u8; TABLE];
-    let Input::Octets(n) = text::take_all(&mut table) else {
+    let Input::Octets(n) = text::take_all(&rt, &mut table) else {
         text::complain(b"cases: standard input cannot be read");
         return;
     };

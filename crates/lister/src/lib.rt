@@ -16,7 +16,7 @@ mod opening;
 mod strides;
 
 // What became of a listing: all of it was taken by standard output, so many octets; or a write failed, and it is cut.
-#[derive(Drop)]
+#[derive(Clone, Copy)]
 pub enum Listed {
     Whole(u64),
     Cut,

@@ -17,7 +17,7 @@ use rule::{Answer, Refusal};
 use sheet::{Sheet, SheetRead};
 
 // A sheet's port after its submission, with the end of the span; or why there is none.
-#[derive(Drop)]
+#[derive(Clone, Copy)]
 pub struct Opened {
     pub answer: Answer,
     pub port: Port,

@@ -6,14 +6,14 @@ use crate::lines;
 use port::{Port, StepAnswer};
 
 // The port after a stride, and how many octets of the page its lines take.
-#[derive(Drop)]
+#[derive(Clone, Copy)]
 pub struct StrideEnd {
     pub port: Port,
     pub used: usize,
 }
 
 // The port at the end of the span and how many octets the lines of all changes have, if all were written.
-#[derive(Drop)]
+#[derive(Clone, Copy)]
 pub struct SpanEnd {
     pub port: Port,
     pub octets: u64,

@@ -5,9 +5,9 @@
 use lister::Listed;
 use text::Input;
 
-fn main() {
+fn main(rt: HostRuntime) {
     let mut octets = [0u8; 1025];
-    let Input::Octets(n) = text::take_all(&mut octets) else {
+    let Input::Octets(n) = text::take_all(&rt, &mut octets) else {
         text::complain(b"listing: standard input cannot be read");
         return;
     };

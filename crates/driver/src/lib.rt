@@ -1,5 +1,5 @@
 // The driver's call: its one port record is lent, and a transmit on it stores the frame there. A refused call, and one that finds nothing to send, leave
-// every octet of the record as it is. Exported to C: include/port.h has the record and what a caller must keep.
+// every octet of the record as it is. Crate `driver_c` exports it to C: include/port.h has the record and what a caller must keep.
 #![tactic(auto)]
 
 ghost use Rattle.std.specs.Prelude.{◌≡◌};
@@ -83,8 +83,7 @@ fn framed_of<'a>(
 
 // Chooses a frame by the heads of the eight queues (0: empty) and the speed in Mbit/s, and stores it in the lent port, field by field, so that no octet
 // between the fields is written. The lists are read where they lie. Refused: 14, 13, 17, 12.
-#[unsafe(no_mangle)]
-pub extern "C" fn kurfandaz_transmit(p: &mut Port, heads: &[u64; 8], speed: u64) -> Answer
+pub fn kurfandaz_transmit(p: &mut Port, heads: &[u64; 8], speed: u64) -> Answer
     ensures { Lends heads.now speed p.old result p.new }
 {
     let c = framed_of(

@@ -7,6 +7,7 @@ mod work;
 
 use gatelist::GateList;
 use lists::{alternating, closing, counting, list_of, pair};
+use std::env::Env;
 use work::set_up;
 
 // Whether a case of this name is asked for.
@@ -114,11 +115,12 @@ fn transmits(name: &[u8], times: u64) {
     }
 }
 
-fn main() {
+// An argument that is missing, or longer than its buffer, is taken as empty.
+fn main(rt: HostRuntime) {
     let mut name = [0u8; 32];
-    let n = os::arg(1, &mut name);
+    let n = rt.arg(1, &mut name).unwrap_or(0);
     let mut count = [0u8; 32];
-    let m = os::arg(2, &mut count);
+    let m = rt.arg(2, &mut count).unwrap_or(0);
     let case = &name[..n];
     let times = text::number64(&count[..m], text::start());
     octets_of_lists(case, times.value);

@@ -128,8 +128,8 @@ fn unread(d: Desk) -> Desk {
 }
 
 // Reads once and answers.
-fn turn(taken: &mut [u8], d: Desk, out: &mut [u8]) -> Desk {
-    let Input::Octets(used) = text::take(taken, d.used) else {
+fn turn(rt: &impl std::io::Input, taken: &mut [u8], d: Desk, out: &mut [u8]) -> Desk {
+    let Input::Octets(used) = text::take(rt, taken, d.used) else {
         return unread(d);
     };
     let next = answer_taken(taken, used, d, out);
@@ -152,14 +152,14 @@ fn begin() -> Desk {
 }
 
 // Answers the input to its end. Each turn but the last takes an octet, so there are no more turns than octets.
-pub fn serve(taken: &mut [u8], out: &mut [u8]) {
+pub fn serve(rt: &impl std::io::Input, taken: &mut [u8], out: &mut [u8]) {
     let mut d = begin();
     let mut left = LONGEST + 2;
     while 0 < left {
         if d.over {
             return;
         }
-        d = turn(taken, d, out);
+        d = turn(rt, taken, d, out);
         left = left - 1;
     }
 }

@@ -25,8 +25,8 @@ fn answer_places() -> [u8; 131072]
 }
 
 // The input is taken up to 1,048,576 octets, with one place more to know that there are more. No answer is longer than the second buffer.
-fn main() {
+fn main(rt: HostRuntime) {
     let mut taken = input_places();
     let mut out = answer_places();
-    input::serve(&mut taken, &mut out);
+    input::serve(&rt, &mut taken, &mut out);
 }

@@ -3,7 +3,7 @@ use port::{Acted, Port};
 use rule::{Answer, Refusal};
 
 // After a call on the port: the port, and how many octets of the buffer are the answer.
-#[derive(Drop)]
+#[derive(Clone, Copy)]
 pub struct Held {
     pub port: Port,
     pub at: usize,

@@ -5,7 +5,7 @@ use port::Port;
 use text::Input;
 
 // How far the input is taken, where the first line that is not answered begins, the port, and whether the input is over.
-#[derive(Drop)]
+#[derive(Clone, Copy)]
 struct Desk {
     used: usize,
     begun: usize,
@@ -14,7 +14,7 @@ struct Desk {
 }
 
 // The port after a line, and whether the line's answer was written.
-#[derive(Drop)]
+#[derive(Clone, Copy)]
 struct Answered {
     port: Port,
     written: bool,

@@ -3,7 +3,7 @@ use gatelist::GateList;
 use text::Scan;
 
 // A list taken, and the scan after it.
-#[derive(Drop)]
+#[derive(Clone, Copy)]
 pub struct Listed {
     pub list: GateList,
     pub scan: Scan,

@@ -9,7 +9,7 @@ use text::Scan;
 use timetable::{Times, Timetable};
 
 // A configuration in a line, and the scan after it: its mark, LEN, CYCLE, EXT and its one or two instants, and its list.
-#[derive(Drop)]
+#[derive(Clone, Copy)]
 struct Config {
     numbers: [u64; 8],
     list: GateList,

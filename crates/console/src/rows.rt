@@ -9,7 +9,7 @@ pub const LARGEST_32: u64 = 4_294_967_295;
 pub const LARGEST_64: u64 = 18_446_744_073_709_551_615;
 
 // The numbers taken, 0 in the other places, and the scan after them.
-#[derive(Drop)]
+#[derive(Clone, Copy)]
 pub struct Row {
     pub values: [u64; 8],
     pub scan: Scan,

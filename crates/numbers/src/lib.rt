@@ -7,14 +7,14 @@ ghost use Rattle.numbers.specs.Groups.{octets_of, joined, up_to, read_up_to, rea
 ghost use Rattle.numbers.specs.Writing.{write_number, writing_of};
 
 // What reading finds: the number and the place after its last octet; or no number, for it is cut short, overlong or too large.
-#[derive(Drop)]
+#[derive(Clone, Copy)]
 pub enum Number {
     Read(u64, usize),
     Malformed,
 }
 
 // What writing answers: how many octets it wrote, or that the buffer is too short for them.
-#[derive(Drop)]
+#[derive(Clone, Copy)]
 pub enum Written {
     Octets(usize),
     Short,

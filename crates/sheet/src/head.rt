@@ -5,7 +5,7 @@ ghost use Rattle.sheet.specs.Sheet.{head_of};
 use numbers::Number;
 
 // The numbers, and the place after the last.
-#[derive(Drop)]
+#[derive(Clone, Copy)]
 pub struct Head {
     pub standing: u8,
     pub numerator: u32,
@@ -14,7 +14,7 @@ pub struct Head {
     pub next: usize,
 }
 
-#[derive(Drop)]
+#[derive(Clone, Copy)]
 pub enum HeadRead {
     Good(Head),
     Malformed,

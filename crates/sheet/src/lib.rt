@@ -12,7 +12,7 @@ use head::HeadRead;
 
 // A sheet: the standing octet; numerator and denominator of the cycle in seconds; the extension in nanoseconds; base time, start and end; the list's stated
 // length; and the place of the first of the list's octets, which go to the sheet's end.
-#[derive(Drop)]
+#[derive(Clone, Copy)]
 pub struct Sheet {
     pub standing: u8,
     pub numerator: u32,
@@ -26,7 +26,7 @@ pub struct Sheet {
 }
 
 // What reading a sheet finds: its record, or none, which is refusal 15.
-#[derive(Drop)]
+#[derive(Clone, Copy)]
 pub enum SheetRead {
     Good(Sheet),
     Malformed,

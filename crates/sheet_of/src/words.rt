@@ -9,7 +9,7 @@ pub struct Word {
 }
 
 // A number, or why a word is none: 0 is good, and the others are those of `form`.
-#[derive(Drop)]
+#[derive(Clone, Copy)]
 pub struct Parsed {
     pub value: u64,
     pub error: u8,

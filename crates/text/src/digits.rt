@@ -4,7 +4,7 @@ ghost use Rattle.std.specs.Prelude.{◌≤◌, length};
 use crate::scan::hex_value;
 
 // An octet of two digits, if they are good.
-#[derive(Drop)]
+#[derive(Clone, Copy)]
 struct Octet {
     value: u8,
     good: bool,

@@ -4,7 +4,7 @@ ghost use Rattle.std.specs.Prelude.{◌<◌, ◌≤◌, ◌≡◌};
 ghost use Rattle.text.specs.Scan.{first_scan, at_end, find_from, hex_value, same_octets};
 
 // Where a scan of a line stands. Begun: a token was taken, so the next has a space before it.
-#[derive(Drop)]
+#[derive(Clone, Copy)]
 pub struct Scan {
     pub at: usize,
     pub good: bool,
@@ -12,7 +12,7 @@ pub struct Scan {
 }
 
 // A token: its first place and the place after its last, and the scan after it.
-#[derive(Drop)]
+#[derive(Clone, Copy)]
 pub struct Token {
     pub first: usize,
     pub end: usize,
@@ -20,27 +20,27 @@ pub struct Token {
 }
 
 // A number taken, 0 if there is none, and the scan after it.
-#[derive(Drop)]
+#[derive(Clone, Copy)]
 pub struct Taken {
     pub value: u64,
     pub scan: Scan,
 }
 
 // The same at 8 and at 32 bits.
-#[derive(Drop)]
+#[derive(Clone, Copy)]
 pub struct Taken8 {
     pub value: u8,
     pub scan: Scan,
 }
 
-#[derive(Drop)]
+#[derive(Clone, Copy)]
 pub struct Taken32 {
     pub value: u32,
     pub scan: Scan,
 }
 
 // The value of digits, if they are good.
-#[derive(Drop)]
+#[derive(Clone, Copy)]
 struct Value {
     value: u64,
     good: bool,

@@ -5,7 +5,7 @@ ghost use Rattle.text.specs.Input.{Takes};
 use std::io::Read;
 
 // What reading gave: so many octets of the buffer are taken, or a read failed.
-#[derive(Drop)]
+#[derive(Clone, Copy)]
 pub enum Input {
     Octets(usize),
     Failed,

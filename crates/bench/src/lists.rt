@@ -4,9 +4,8 @@ use gatelist::GateList;
 // The octets 80, 81 and so on to FF: class 7 is always open, and neighbours differ, also over the wrap.
 pub fn counting() -> [u8; 128] {
     let mut octets = [0u8; 128];
-    for i in 0..128 {
-        let k = i as u8;
-        octets[i] = 0x80 | k;
+    for (octet, k) in octets.iter_mut().zip(0x80..=0xff) {
+        *octet = k;
     }
     octets
 }
@@ -37,8 +36,8 @@ fn paired(octet: u8, both: bool) -> u8 {
 // The octets C0, C1 and so on to FF, twice: classes 7 and 6 are always open. From an entry on class 7 is closed.
 pub fn pair(until: usize) -> [u8; 128] {
     let mut octets = counting();
-    for i in 0..128 {
-        octets[i] = paired(octets[i], i < until);
+    for (i, octet) in octets.iter_mut().enumerate() {
+        *octet = paired(*octet, i < until);
     }
     octets
 }

@@ -2,59 +2,75 @@
 // listing is written. What is written is compared with crates/cases/stdout.
 #![tactic(auto)]
 
-use lister::Listed;
-use text::Input;
-
 // The longest table, in octets, and the longest sheet that is tried.
 const TABLE: usize = 16384;
 
 const SHEET: usize = 2048;
 
-// Writes a line of the table, or the listing of its sheet; false if that cannot be done.
-fn row(line: &[u8]) -> bool {
-    if line.len() == 0 {
-        return true;
+// Why it ends before the table does.
+#[derive(Clone, Copy)]
+enum Fault {
+    Unread,
+    TooLong,
+    NoEnd,
+    NotDone,
+}
+
+impl Fault {
+    // What standard error says of it.
+    fn message(self) -> &'static [u8] {
+        match self {
+            Fault::Unread => b"cases: standard input cannot be read",
+            Fault::TooLong => b"cases: the table is too long",
+            Fault::NoEnd => b"cases: the last line has no end",
+            Fault::NotDone => b"cases: a line is no sheet, or cannot be written",
+        }
     }
-    if line[0] == b'#' {
-        return io::write_all(1, line) & io::write_all(1, b"\n");
+}
+
+// Writes a title as it stands.
+fn title(line: &[u8]) -> Result<(), Fault> {
+    if io::write_all(1, line) & io::write_all(1, b"\n") {
+        Ok(())
+    } else {
+        Err(Fault::NotDone)
     }
+}
+
+// Writes the listing of a sheet in hexadecimal digits.
+fn listing(line: &[u8]) -> Result<(), Fault> {
     let mut sheet = [0u8; SHEET];
-    let n = text::from_hex(line, &mut sheet);
-    if n == 0 {
-        return false;
-    }
-    match lister::list(&sheet[..n]) {
-        Listed::Whole(_) => true,
-        Listed::Cut => false,
-    }
+    let n = text::from_hex(line, &mut sheet).ok_or(Fault::NotDone)?;
+    lister::list(&sheet[..n]).map_err(|_| Fault::NotDone)?;
+    Ok(())
 }
 
 // Each line, until one cannot be done.
-fn rows(table: &[u8]) {
-    let mut begun: usize = 0;
-    while begun < table.len() {
-        let end = text::find(table, begun, b'\n');
-        if table.len() <= end {
-            text::complain(b"cases: the last line has no end");
-            return;
+fn rows(table: &[u8]) -> Result<(), Fault> {
+    for line in table.split_inclusive(|octet| *octet == b'\n') {
+        let line = line.strip_suffix(b"\n").ok_or(Fault::NoEnd)?;
+        match line {
+            [] => {}
+            [b'#', ..] => title(line)?,
+            _ => listing(line)?,
         }
-        if !row(text::part(table, begun, end)) {
-            text::complain(b"cases: a line is no sheet, or cannot be written");
-            return;
-        }
-        begun = end + 1;
     }
+    Ok(())
+}
+
+fn run(rt: &impl std::io::Input) -> Result<(), Fault> {
+    let mut table = [0u8; TABLE];
+    let Ok(n) = text::take_all(rt, &mut table) else {
+        return Err(Fault::Unread);
+    };
+    if TABLE <= n {
+        return Err(Fault::TooLong);
+    }
+    rows(&table[..n])
 }
 
 fn main(rt: HostRuntime) {
-    let mut table = [0u8; TABLE];
-    let Input::Octets(n) = text::take_all(&rt, &mut table) else {
-        text::complain(b"cases: standard input cannot be read");
-        return;
-    };
-    if TABLE <= n {
-        text::complain(b"cases: the table is too long");
-        return;
+    if let Err(fault) = run(&rt) {
+        text::complain(fault.message());
     }
-    rows(text::part(&table, 0, n));
 }

@@ -1,63 +1,76 @@
-// What a call answers, put into the lent buffer from its first place on, and the port that it leaves. No answer is empty: 0 octets say that the line is no call.
-use port::{Acted, Port};
-use rule::{Answer, Refusal};
+// What a call answers: words and numbers on a line, put into a lent buffer from its first place on.
+use rule::Refusal;
 
-// After a call on the port: the port, and how many octets of the buffer are the answer.
-#[derive(Clone, Copy)]
-pub struct Held {
-    pub port: Port,
-    pub at: usize,
+// A line that is being written, in a lent buffer and no String, so that no answer fails for want of memory. What does not fit is left out; no answer is longer than the buffer that `main` lends.
+#[derive(Drop)]
+pub struct Line<'a> {
+    out: &'a mut [u8],
+    at: usize,
 }
 
-// A line that is no call changes nothing.
-pub fn no_call(port: Port) -> Held {
-    Held { port, at: 0 }
-}
-
-pub fn say_refused(out: &mut [u8], r: Refusal) -> usize {
-    let at = text::put(out, 0, b"refused ");
-    text::decimal(out, at, rule::number(r) as u64)
-}
-
-pub fn say_answer(out: &mut [u8], a: Answer) -> usize {
-    match a {
-        Answer::Done => text::put(out, 0, b"ok"),
-        Answer::Refused(r) => say_refused(out, r),
+impl<'a> Line<'a> {
+    pub fn new(out: &'a mut [u8]) -> Line<'a> {
+        Line { out, at: 0 }
     }
-}
 
-// An act's answer.
-pub fn acted(a: Acted, out: &mut [u8]) -> Held {
-    let port = a.port;
-    let x = a.answer;
-    let at = say_answer(out, x);
-    Held { port, at }
-}
-
-// `ok` and a count.
-pub fn say_count(out: &mut [u8], n: usize) -> usize {
-    let at = text::put(out, 0, b"ok");
-    text::spaced(out, at, n as u64)
-}
-
-// Numbers, a space before each.
-pub fn say_numbers(out: &mut [u8], at: usize, xs: &[u64]) -> usize {
-    let mut next = at;
-    let mut i: usize = 0;
-    while i < xs.len() {
-        next = text::spaced(out, next, xs[i]);
-        i = i + 1;
+    // Puts a word.
+    pub fn word(&mut self, s: &[u8]) {
+        self.at = text::put(self.out, self.at, s);
     }
-    next
-}
 
-// Octets, a space before each.
-pub fn say_octets(out: &mut [u8], at: usize, xs: &[u8]) -> usize {
-    let mut next = at;
-    let mut i: usize = 0;
-    while i < xs.len() {
-        next = text::spaced(out, next, text::wide(xs[i]));
-        i = i + 1;
+    // Ends the line and writes it to standard output, and answers whether it was taken.
+    pub fn show(&mut self) -> bool {
+        self.word(b"\n");
+        let end = self.at;
+        text::show(self.out, end)
     }
-    next
+
+    // Puts a number, a space before it.
+    pub fn number<N: Into<u64>>(&mut self, n: N) {
+        self.at = text::spaced(self.out, self.at, n.into());
+    }
+
+    // Puts a count, a space before it.
+    pub fn count(&mut self, n: usize) {
+        self.number(n as u64);
+    }
+
+    // Puts numbers, a space before each.
+    pub fn numbers(&mut self, xs: &[u64]) {
+        for x in xs {
+            self.number(*x);
+        }
+    }
+
+    // Puts octets as numbers, a space before each.
+    pub fn octets(&mut self, xs: &[u8]) {
+        for x in xs {
+            self.number(*x);
+        }
+    }
+
+    // Puts a refusal.
+    pub fn refused(&mut self, r: Refusal) {
+        self.word(b"refused");
+        self.number(u8::from(r));
+    }
+
+    // Puts what an act answers.
+    pub fn answer(&mut self, a: Result<(), Refusal>) {
+        match a {
+            Ok(()) => self.word(b"ok"),
+            Err(r) => self.refused(r),
+        }
+    }
+
+    // Puts how many a call has written.
+    pub fn written(&mut self, a: Result<usize, Refusal>) {
+        match a {
+            Ok(n) => {
+                self.word(b"ok");
+                self.count(n);
+            }
+            Err(r) => self.refused(r),
+        }
+    }
 }

@@ -1,165 +1,88 @@
-// The lines of standard input, answered one by one as they come. A read or a write that fails is said on standard error and ends it; a line that a failed read
-// has cut is not looked at.
+// The lines of standard input, answered one by one as they come. A read or a write that fails ends it; a line that a failed read has cut is not looked at.
+ghost use Rattle.std.specs.Prelude.{◌≤◌, length, IfOk};
+
+use crate::answer::Line;
 use crate::calls::call;
 use port::Port;
-use text::Input;
-
-// How far the input is taken, where the first line that is not answered begins, the port, and whether the input is over.
-#[derive(Clone, Copy)]
-struct Desk {
-    used: usize,
-    begun: usize,
-    port: Port,
-    over: bool,
-}
-
-// The port after a line, and whether the line's answer was written.
-#[derive(Clone, Copy)]
-struct Answered {
-    port: Port,
-    written: bool,
-}
 
 // The octets that are taken at most.
-const LONGEST: usize = 1048576;
+pub const LONGEST: usize = 1048576;
 
-// An answer with its line end.
-fn closed(out: &mut [u8], at: usize) -> usize {
-    if at == 0 {
-        return text::put(out, 0, b"not a call\n");
+// Why it ends before the input does.
+#[derive(Clone, Copy)]
+pub enum Fault {
+    Unread,
+    Unwritten,
+    TooLong,
+}
+
+impl Fault {
+    // What standard error says of it.
+    pub fn message(self) -> &'static [u8] {
+        match self {
+            Fault::Unread => b"console: standard input cannot be read",
+            Fault::Unwritten => b"console: standard output cannot be written",
+            Fault::TooLong => b"console: the input has more than 1048576 octets",
+        }
     }
-    text::put(out, at, b"\n")
 }
 
 // Answers a line, if it is not empty and no remark.
-fn answer(s: &[u8], p: Port, out: &mut [u8]) -> Answered {
-    if s.len() == 0 {
-        return Answered {
-            port: p,
-            written: true,
-        };
+fn answer(s: &[u8], port: &mut Port, out: &mut [u8]) -> Result<(), Fault> {
+    if s.is_empty() || s.starts_with(b"#") {
+        return Ok(());
     }
-    if s[0] == b'#' {
-        return Answered {
-            port: p,
-            written: true,
-        };
+    let mut line = Line::new(out);
+    if call(s, port, &mut line).is_none() {
+        line.word(b"not a call");
     }
-    let h = call(s, p, out);
-    let end = closed(out, h.at);
-    let written = text::show(out, end);
-    if !written {
-        text::complain(b"console: standard output cannot be written");
+    if line.show() {
+        Ok(())
+    } else {
+        Err(Fault::Unwritten)
     }
-    let port = h.port;
-    Answered { port, written }
 }
 
-// Answers each whole line from a place on, until an answer cannot be written.
-fn answer_lines(s: &[u8], d: Desk, out: &mut [u8]) -> Desk {
-    let mut begun = d.begun;
-    let mut port = d.port;
-    while begun < s.len() {
-        let end = text::find(s, begun, b'\n');
-        if s.len() <= end {
-            return Desk {
-                used: d.used,
-                begun,
-                port,
-                over: d.over,
-            };
-        }
-        let a = answer(text::part(s, begun, end), port, out);
-        port = a.port;
-        begun = end + 1;
-        if !a.written {
-            return Desk {
-                used: d.used,
-                begun,
-                port,
-                over: true,
-            };
+// Answers each whole line, and gives how many octets are left behind the last.
+fn answer_lines(s: &[u8], port: &mut Port, out: &mut [u8]) -> Result<usize, Fault>
+    ensures { IfOk result (λ left. left ≤ length s.now) }
+{
+    for line in s.split_inclusive(|octet| *octet == b'\n') {
+        match line.strip_suffix(b"\n") {
+            Some(line) => answer(line, port, out)?,
+            None => return Ok(line.len()),
         }
     }
-    Desk {
-        used: d.used,
-        begun,
-        port,
-        over: d.over,
-    }
+    Ok(0)
 }
 
-fn least(a: usize, b: usize) -> usize {
-    if a < b { a } else { b }
-}
-
-// Answers the lines that have come; at the end, also a last one with no line end.
-fn answer_taken(taken: &[u8], used: usize, d: Desk, out: &mut [u8]) -> Desk {
-    if used == d.used {
-        let a = answer(text::part(taken, d.begun, used), d.port, out);
-        let port = a.port;
-        return Desk {
-            used,
-            begun: used,
-            port,
-            over: true,
+// Answers the input to its end; there, also a last line with no line end. Each turn but the last takes an octet, so there are no more turns than octets.
+pub fn serve(
+    rt: &impl std::io::Input,
+    taken: &mut [u8; LONGEST + 1],
+    out: &mut [u8; 131072],
+) -> Result<(), Fault> {
+    let mut port = Port::new(0, 0).port;
+    let mut begun = 0;
+    let mut used = 0;
+    for _ in 0..LONGEST + 2 {
+        let Ok(now) = text::take(rt, taken, used) else {
+            return Err(Fault::Unread);
         };
-    }
-    let port = d.port;
-    let next = Desk {
-        used,
-        begun: d.begun,
-        port,
-        over: LONGEST < used,
-    };
-    answer_lines(text::part(taken, 0, least(used, LONGEST)), next, out)
-}
-
-// Ends it: the input cannot be read.
-fn unread(d: Desk) -> Desk {
-    text::complain(b"console: standard input cannot be read");
-    let port = d.port;
-    Desk {
-        used: d.used,
-        begun: d.begun,
-        port,
-        over: true,
-    }
-}
-
-// Reads once and answers.
-fn turn(rt: &impl std::io::Input, taken: &mut [u8], d: Desk, out: &mut [u8]) -> Desk {
-    let Input::Octets(used) = text::take(rt, taken, d.used) else {
-        return unread(d);
-    };
-    let next = answer_taken(taken, used, d, out);
-    if LONGEST < used {
-        io::write_all(1, b"input too long\n");
-        text::complain(b"console: the input has more than 1048576 octets");
-    }
-    next
-}
-
-fn begin() -> Desk {
-    let made = Port::new(0, 0);
-    let port = made.port;
-    Desk {
-        used: 0,
-        begun: 0,
-        port,
-        over: false,
-    }
-}
-
-// Answers the input to its end. Each turn but the last takes an octet, so there are no more turns than octets.
-pub fn serve(rt: &impl std::io::Input, taken: &mut [u8], out: &mut [u8]) {
-    let mut d = begin();
-    let mut left = LONGEST + 2;
-    while 0 < left {
-        if d.over {
-            return;
+        if now == used {
+            return answer(&taken[begun..used], &mut port, out);
         }
-        d = turn(rt, taken, d, out);
-        left = left - 1;
+        used = now;
+        let left = answer_lines(&taken[begun..used.min(LONGEST)], &mut port, out);
+        if LONGEST < used {
+            // An answer that could not be written is said besides.
+            if let Err(fault) = left {
+                text::complain(fault.message());
+            }
+            io::write_all(1, b"input too long\n");
+            return Err(Fault::TooLong);
+        }
+        begun = used - left?;
     }
+    Ok(())
 }

@@ -1,19 +1,20 @@
 -- A stretch walked by rounds, the changes of one period, of which all but the first are repeated. In order: the cycles of a configuration, periods later;
 -- the ways out of `walk_repeating`; those of `walk_long`.
 -- Assumes nothing.
-use Rattle.std.proofs.Common.{◌≡◌, ℕ, zero, suc, ◌+◌, ◌-◌, ◌*◌, ◌<◌, ◌≤◌, Bool, true, false, ltb, List, length, sym, refl, ap, ◌∙◌, subst, ap₂, true≢false, zero-mul, arith, length-append, ltb-false, ltb-true}
+use Rattle.std.proofs.Common.{◌≡◌, ℕ, zero, suc, ◌+◌, ◌-◌, ◌*◌, ◌<◌, ◌≤◌, Bool, true, false, Ok, Err, ltb, List, length, sym, refl, ap, ◌∙◌, subst, ap₂, zero-mul, arith, length-append, ltb-false, ltb-true}
 use mathlib.Core.Path.{subst⁻¹}
 use Rattle.rule.specs.History.{changes}
 use Rattle.rule.specs.Cycle.{Config, Valid, start_no, cycle_no, plain_start, plain_octet}
 use Rattle.rule.proofs.Cycles.{start-le, plain_le, next_start_lem}
 use Rattle.rule.proofs.Regime.{next-is, same_start, next_own}
-use Rattle.course.specs.declared.stretch.Walk.{Walk}
+use Rattle.course.specs.declared.Reached.{Reached}
+use Rattle.course.specs.declared.Walk.{Walk}
 use Rattle.timetable.specs.declared.cursor.Stretch.{Stretch}
 use Rattle.timetable.specs.Stretch.{Runs}
 use Rattle.timetable.proofs.Stretches.{plain_round}
-use Rattle.course.specs.Journey.{Journey, WrittenUpTo, WalkOutcome}
-use Rattle.course.specs.Stretch.{Reportable, CyclesShown, ListPromise}
-use Rattle.course.specs.Period.{GoneByPeriods, BaseAt, PeriodChanges, RepeatPromise}
+use Rattle.course.specs.Journey.{Journey, WrittenUpTo, Walked, Written, WalkOutcome}
+use Rattle.course.specs.Stretch.{Reportable, until_edge, with_base, by_cycles, CyclesShown, ListPromise, WalkPromise}
+use Rattle.course.specs.Period.{GoneByPeriods, BaseAt, PeriodChanges, RepeatPromise, AgainPromise}
 use Rattle.course.proofs.Recurring.{changes-on, written_rounds}
 
 -- the cycles of a configuration
@@ -72,197 +73,105 @@ module _ (j : Journey) (f : Config) (os vs : List ℕ) (n p t edge : ℕ) (y : C
 
 -- the rounds of a stretch that are repeated, and the rest of it
 
-pub gone_since : (t last period count since : ℕ) (w : Walk) (at os : List ℕ) (r : Walk) (at' os' : List ℕ) → count ≡ w.written - since
-    → GoneByPeriods t last period count w at os r at' os' → GoneByPeriods t last period (w.written - since) w at os r at' os'
-gone_since t last period count since w at os r at' os' e k = subst (λ q. GoneByPeriods t last period q w at os r at' os') e k
+pub gone_since : (t last period count since : ℕ) (w : Walk) (at : ℕ) (r : Walk) → count ≡ w.written - since → GoneByPeriods t last period count w at r
+    → GoneByPeriods t last period (w.written - since) w at r
+gone_since t last period count since w at r e k = subst (λ q. GoneByPeriods t last period q w at r) e k
 
-abbrev pub rest_of : Stretch → ℕ → Stretch
-rest_of s next = record { len = s.len; period = s.period; base = s.base + (next - s.from); from = next; edge = s.edge }
-
-pub reportable_rest : (vs : List ℕ) (s : Stretch) → Reportable vs s → (next : ℕ) → s.from ≤ next → next < s.edge → Reportable vs (rest_of s next)
-reportable_rest vs s k next a b =
-    let h = k.walkable in
-    let c = h.begun in
-    let d = h.ahead in
-    record {
-      walkable = record {
-        some = h.some;
-        few = h.few;
-        used = h.used;
-        begun = omega arith;
-        ahead = omega arith;
-        before = b;
-        near = h.near;
-        short = h.short;
-      };
-      first = omega (arith, k.first);
-    }
-
-module _ (os vs : List ℕ) (s : Stretch) (spans : Reportable vs s) (since : ℕ) (w : Walk) (at cs : List ℕ) (r : Walk) (at' cs' : List ℕ)
-    (q : GoneByPeriods (s.from - 1) (s.edge - 1) s.period (w.written - since) w at cs r at' cs') where
+module _ (os vs : List ℕ) (s : Stretch) (spans : Reportable vs s) (since : ℕ) (w : Walk) (at : ℕ) (r : Walk)
+    (q : GoneByPeriods (s.from - 1) (s.edge - 1) s.period (w.written - since) w at r) where
   -- the walk has come to where the rounds end
-  repeated_written : (j : Journey) (f : Config) (t : ℕ) → s.from ≡ t + s.period + 1 → PeriodChanges j f t s.period (w.written - since) → CyclesShown j f os vs s.len s.period t s.edge
-      → WrittenUpTo j (s.from - 1) w.octet w.written at cs → WrittenUpTo j r.at r.octet r.written at' cs'
+  repeated_written : (j : Journey) (f : Config) (t : ℕ) → s.from ≡ t + s.period + 1 → PeriodChanges j f t s.period (w.written - since)
+      → CyclesShown j f os vs s.list.len s.period t s.edge → Written j (s.from - 1) w → Written j at r
   repeated_written j f t e k y d =
       let p : ℕ = s.period in
       let z : s.from - 1 ≡ t + p = omega arith in
       let a = q.stands in
-      let u : r.at ≡ t + p + q.periods * p = omega arith in
+      let u : at ≡ t + p + q.periods * p = omega arith in
       let b = q.upto in
       let n = spans.walkable.near in
       let h = spans.walkable.before in
-      let x = written_rounds j p t s.edge (cycles_come j f os vs s.len p t s.edge y k.started) k.after w.octet w.written at cs
-      (subst (λ v. WrittenUpTo j v w.octet w.written at cs) z d) (w.written - since) k.has q.periods (omega arith) r.written q.written q.repeatable
-      at' cs' (omega arith) y.goal q.instants q.octets in
-      subst⁻¹ (λ v. WrittenUpTo j v r.octet r.written at' cs') u (subst⁻¹ (λ o. WrittenUpTo j (t + p + q.periods * p) o r.written at' cs') q.octet x)
+      let x = written_rounds j p t s.edge (cycles_come j f os vs s.list.len p t s.edge y k.started) k.after w.octet w.written w.instants.now w.octets.now
+      (subst (λ v. Written j v w) z d) (w.written - since) k.has q.periods (omega arith) r.written q.written q.repeatable
+      r.instants.now r.octets.now (omega arith) y.goal q.instants q.octets in
+      subst⁻¹ (λ v. Written j v r) u (subst⁻¹ (λ o. WrittenUpTo j (t + p + q.periods * p) o r.written r.instants.now r.octets.now) q.octet x)
 
   -- nothing is left
-  pub repeated_edge : s.edge ≤ r.at + 1 → RepeatPromise os vs s since w at cs r at' cs'
+  pub repeated_edge : s.edge ≤ at + 1 → RepeatPromise os vs s since w (Ok tt) r
   repeated_edge l j f t e k y x d =
       let b = q.upto in
       let h = spans.walkable.before in
-      let z : r.at ≡ s.edge - 1 = omega arith in
-      record {
-        on = λ _. subst (λ v. WrittenUpTo j v r.octet r.written at' cs') z (repeated_written j f t e k y d);
-        stands = λ _. z;
-        stopped = λ m. absurd (true≢false (sym m ∙ q.goes));
-      }
+      let z : at ≡ s.edge - 1 = omega arith in
+      subst (λ v. Written j v r) z (repeated_written j f t e k y d)
 
   -- the rest is walked
-  pub repeated_rest : r.at + 1 < s.edge → (r'' : Walk) (at'' cs'' : List ℕ) → ListPromise os vs (rest_of s (r.at + 1)) r at' cs' r'' at'' cs''
-      → RepeatPromise os vs s since w at cs r'' at'' cs''
-  repeated_rest l r'' at'' cs'' m j f t e k y x d =
+  pub repeated_rest : at + 1 < s.edge → (a : Walked) (w' : Walk) → ListPromise os vs (by_cycles s (at + 1)) r a w' → RepeatPromise os vs s since w a w'
+  repeated_rest l answer w' m j f t e k y x d =
       let p : ℕ = s.period in
       let a = q.stands in
       let i = spans.first in
       let c = y.plays.cycle in
-      let z : r.at + 1 ≡ s.from + q.periods * f.cycle = omega arith ∙ ap (λ v. s.from + q.periods * v) (sym c) in
-      let z' : r.at ≡ r.at + 1 - 1 = omega arith in
+      let z : at + 1 ≡ s.from + q.periods * f.cycle = omega arith ∙ ap (λ v. s.from + q.periods * v) (sym c) in
+      let z' : at ≡ at + 1 - 1 = omega arith in
       let o = x.started in
-      let b : plain_start f (r.at + 1) ≡ s.base + (r.at + 1 - s.from) = ap (plain_start f) z ∙ start_times_lem f y.plays.valid s.from q.periods o ∙ omega (arith, x.base) in
-      m j f (cycles_part j f os vs s.len p t s.edge y (r.at + 1) s.edge (omega arith) (omega arith)) (record { started = omega arith; base = b })
-      (subst (λ v. WrittenUpTo j v r.octet r.written at' cs') z' (repeated_written j f t e k y d))
+      let b : plain_start f (at + 1) ≡ s.base + (at + 1 - s.from) = ap (plain_start f) z ∙ start_times_lem f y.plays.valid s.from q.periods o ∙ omega (arith, x.base) in
+      m j f (cycles_part j f os vs s.list.len p t s.edge y (at + 1) s.edge (omega arith) (omega arith)) (record { started = omega arith; base = b })
+      (subst (λ v. Written j v r) z' (repeated_written j f t e k y d))
 
 -- the first instant of a stretch, the round after it, and what comes then
 
-abbrev pub first_instant_of : Stretch → Stretch
-first_instant_of s = record { len = s.len; period = s.period; base = s.base; from = s.from; edge = s.from + 1 }
-
-abbrev pub round_of : Stretch → ℕ → Stretch
-round_of s b = record { len = s.len; period = s.period; base = b; from = s.from + 1; edge = s.from + 1 + s.period }
-
-abbrev pub after_of : Stretch → ℕ → Stretch
-after_of s b = record { len = s.len; period = s.period; base = b + s.period; from = s.from + 1 + s.period; edge = s.edge }
-
-pub reportable_first : (vs : List ℕ) (s : Stretch) → Reportable vs s → Reportable vs (first_instant_of s)
-reportable_first vs s k =
-    let h = k.walkable in
-    let b = h.before in
-    record {
-      walkable = record {
-        some = h.some;
-        few = h.few;
-        used = h.used;
-        begun = h.begun;
-        ahead = h.ahead;
-        before = omega arith;
-        near = omega (arith, h.near);
-        short = h.short;
-      };
-      first = k.first;
-    }
-
--- the start found is that of a cycle that runs then
-pub base_runs : (base period t b : ℕ) → base ≤ t → t < base + period → BaseAt base period (t + 1) b → (b ≤ t + 1) × (t + 1 < b + period)
-base_runs base period t b h k n = go (ltb (t + 1) (base + period)) refl
-  where
-    go : (q : Bool) → ltb (t + 1) (base + period) ≡ q → (b ≤ t + 1) × (t + 1 < b + period)
-    go true z = let l = ltb-true (t + 1) (base + period) z in let e = n.same l in (omega arith, omega arith)
-    go false z = let l = ltb-false (t + 1) (base + period) z in let e = n.next l in (omega arith, omega arith)
-
-module _ (vs : List ℕ) (s : Stretch) (k : Reportable vs s) (long : s.from + 1 + s.period < s.edge) (b : ℕ) (runs : BaseAt s.base s.period (s.from + 1) b) where
-  pub reportable_round : Reportable vs (round_of s b)
-  reportable_round =
-      let h = k.walkable in
-      let z = base_runs s.base s.period s.from b h.begun h.ahead runs in
-      record {
-        walkable = record {
-          some = h.some;
-          few = h.few;
-          used = h.used;
-          begun = z.0;
-          ahead = z.1;
-          before = omega (arith, h.begun, h.ahead);
-          near = omega (arith, h.near);
-          short = h.short;
-        };
-        first = omega arith;
-      }
-
-  pub reportable_after : Reportable vs (after_of s b)
-  reportable_after =
-      let h = k.walkable in
-      let z = base_runs s.base s.period s.from b h.begun h.ahead runs in
-      record {
-        walkable = record {
-          some = h.some;
-          few = h.few;
-          used = h.used;
-          begun = omega (arith, z.0);
-          ahead = omega (arith, z.1);
-          before = long;
-          near = h.near;
-          short = h.short;
-        };
-        first = omega arith;
-      }
-
--- a walk that is full before the edge
-outcome_full : (j : Journey) (t u : ℕ) (w : Walk) (at os : List ℕ) → w.full ≡ true → WalkOutcome j t w at os → WalkOutcome j u w at os
-outcome_full j t u w at os q g = record {
-  on = λ z. absurd (true≢false (sym q ∙ z));
-  stands = λ z. absurd (true≢false (sym q ∙ z));
-  stopped = g.stopped;
-}
-
 -- what went before, by any step and configuration that the stretch is of: the first instant, and the round after it
-module _ (os vs : List ℕ) (s : Stretch) (long : s.from + 1 + s.period < s.edge) (w : Walk) (at cs : List ℕ)
-    (a : Walk) (at₁ cs₁ : List ℕ) (x : ListPromise os vs (first_instant_of s) w at cs a at₁ cs₁) where
-  module _ (j : Journey) (f : Config) (y : CyclesShown j f os vs s.len s.period s.from s.edge) (z : Runs f s)
-      (d : WrittenUpTo j (s.from - 1) w.octet w.written at cs) where
-    first-outcome : WalkOutcome j (s.from + 1 - 1) a at₁ cs₁
-    first-outcome =
-        x j f (cycles_part j f os vs s.len s.period s.from s.edge y s.from (s.from + 1) (omega arith) (omega arith))
-        (record { started = z.started; base = z.base }) d
+module _ (s : Stretch) (long : s.from + 1 + s.period < s.edge) (w : Walk) (one : Stretch) (first : one ≡ until_edge s (s.from + 1)) where
+  abbrev os : List ℕ
+  os = s.list.octets.now
 
-    module _ (goes : a.full ≡ false) (b : ℕ) (runs : BaseAt s.base s.period (s.from + 1) b)
-        (c : Walk) (at₂ cs₂ : List ℕ) (x₂ : ListPromise os vs (round_of s b) a at₁ cs₁ c at₂ cs₂) where
+  abbrev vs : List ℕ
+  vs = s.list.intervals.now
+
+  first-outcome : (r : Walked) (a : Walk) → WalkPromise one w r a → (j : Journey) (f : Config)
+      → CyclesShown j f os vs s.list.len s.period s.from s.edge → Runs f s → Written j (s.from - 1) w → WalkOutcome j (s.from + 1 - 1) r a
+  first-outcome r a x j f y z d =
+      subst (λ q. WalkPromise q w r a) first x j f (cycles_part j f os vs s.list.len s.period s.from s.edge y s.from (s.from + 1) (omega arith) (omega arith))
+      (record { started = z.started; base = z.base }) d
+
+  -- the first instant finds no room
+  pub round_none : (e : Reached) (a : Walk) → WalkPromise one w (Err e) a → WalkPromise s w (Err e) a
+  round_none e a x j f y z d = first-outcome (Err e) a x j f y z d
+
+  module _ (a : Walk) (x : WalkPromise one w (Ok tt) a) (k : Stretch) (runs : BaseAt s.base s.period (s.from + 1) k.base)
+      (part : k ≡ with_base s k.base (s.from + 1)) (round : Stretch) (next : round ≡ until_edge k (s.from + 1 + s.period)) where
+    abbrev b : ℕ
+    b = k.base
+
+    module _ (j : Journey) (f : Config) (y : CyclesShown j f os vs s.list.len s.period s.from s.edge) (z : Runs f s) (d : Written j (s.from - 1) w) where
+      first_written : Written j (s.from + 1 - 1) a
+      first_written = (first-outcome (Ok tt) a x j f y z d)
+
       round_start : plain_start f (s.from + 1) ≡ b
       round_start = start-next f y.plays.valid s.base s.from b z.started z.base (subst⁻¹ (λ v. BaseAt s.base v (s.from + 1) b) y.plays.cycle runs)
 
-      round_outcome : WalkOutcome j (s.from + 1 + s.period - 1) c at₂ cs₂
-      round_outcome =
+      round_outcome : (r : Walked) (c : Walk) → WalkPromise round a r c → WalkOutcome j (s.from + 1 + s.period - 1) r c
+      round_outcome r c m =
           let o = z.started in
-          x₂ j f (cycles_part j f os vs s.len s.period s.from s.edge y (s.from + 1) (s.from + 1 + s.period) (omega arith) (omega arith))
-          (record { started = omega arith; base = round_start }) (first-outcome.on goes)
+          subst (λ q. WalkPromise q a r c) (next ∙ ap (λ q. until_edge q (s.from + 1 + s.period)) part) m j f (cycles_part j f os vs s.list.len s.period s.from s.edge y (s.from + 1) (s.from + 1 + s.period) (omega arith) (omega arith))
+          (record { started = omega arith; base = round_start }) first_written
 
       -- the cycle after the round
-      after_runs : Runs f (after_of s b)
+      after_runs : Runs f (by_cycles (with_base s b (s.from + 1)) (s.from + 1 + s.period))
       after_runs =
           let o = z.started in
           record {
             started = omega arith;
-            base = ap (λ i. plain_start f (s.from + 1 + i)) (sym y.plays.cycle) ∙ start_period f y.plays.valid (s.from + 1) (omega arith) ∙ ap₂ (λ i l. i + l) round_start y.plays.cycle;
+            base = ap (λ i. plain_start f (s.from + 1 + i)) (sym y.plays.cycle) ∙ start_period f y.plays.valid (s.from + 1) (omega arith) ∙ ap₂ (λ i l. i + l) round_start y.plays.cycle
+                ∙ omega arith;
           }
 
       -- the round has as many changes as were written for it
-      round_has : c.full ≡ false → PeriodChanges j f s.from s.period (c.written - a.written)
-      round_has q =
+      round_has : (c : Walk) → Written j (s.from + 1 + s.period - 1) c → PeriodChanges j f s.from s.period (c.written - a.written)
+      round_has c v =
           let g : ℕ → ℕ = j.shows in
           let t : ℕ = s.from in
           let p : ℕ = s.period in
-          let u = first-outcome.on goes in
-          let v = round_outcome.on q in
+          let u = first_written in
           let e : t + 1 - 1 ≡ t = omega arith in
           let e' : t + 1 + p - 1 ≡ t + p = omega arith in
           let k : j.clock ≤ t = subst (λ i. j.clock ≤ i) e u.from in
@@ -272,18 +181,14 @@ module _ (os vs : List ℕ) (s : Stretch) (long : s.from + 1 + s.period < s.edge
           ∙ length-append (changes g j.clock (t - j.clock)) (changes g t p) in
           record { after = k; started = z.started; has = omega arith }
 
-  -- the first instant finds no room
-  pub round_none : a.full ≡ true → ListPromise os vs s w at cs a at₁ cs₁
-  round_none q j f y z d = outcome_full j (s.from + 1 - 1) (s.edge - 1) a at₁ cs₁ q (first-outcome j f y z d)
-
-  module _ (goes : a.full ≡ false) (b : ℕ) (runs : BaseAt s.base s.period (s.from + 1) b)
-      (c : Walk) (at₂ cs₂ : List ℕ) (x₂ : ListPromise os vs (round_of s b) a at₁ cs₁ c at₂ cs₂) where
     -- the round finds no room
-    pub round_full : c.full ≡ true → ListPromise os vs s w at cs c at₂ cs₂
-    round_full q j f y z d = outcome_full j (s.from + 1 + s.period - 1) (s.edge - 1) c at₂ cs₂ q (round_outcome j f y z d goes b runs c at₂ cs₂ x₂)
+    pub round_full : (e : Reached) (c : Walk) → WalkPromise round a (Err e) c → WalkPromise s w (Err e) c
+    round_full e c m j f y z d = round_outcome j f y z d (Err e) c m
 
     -- the stretch goes on after it
-    pub round_more : c.full ≡ false → (r : Walk) (at₃ cs₃ : List ℕ) → RepeatPromise os vs (after_of s b) a.written c at₂ cs₂ r at₃ cs₃ → ListPromise os vs s w at cs r at₃ cs₃
-    round_more q r at₃ cs₃ m j f y z d =
-        m j f s.from (omega arith) (round_has j f y z d goes b runs c at₂ cs₂ x₂ q) y (after_runs j f y z d goes b runs c at₂ cs₂ x₂)
-        ((round_outcome j f y z d goes b runs c at₂ cs₂ x₂).on q)
+    pub round_more : (c : Walk) → WalkPromise round a (Ok tt) c → (r : Walked) (w' : Walk) (rest : Stretch)
+        → rest ≡ by_cycles k (s.from + 1 + s.period) → AgainPromise rest a.written c r w' → WalkPromise s w r w'
+    round_more c m r w' rest l q j f y z d =
+        let v = (round_outcome j f y z d (Ok tt) c m) in
+        subst (λ g. AgainPromise g a.written c r w') (l ∙ ap (λ g. by_cycles g (s.from + 1 + s.period)) part) q
+        j f s.from (omega arith) (round_has j f y z d c v) y (after_runs j f y z d) v

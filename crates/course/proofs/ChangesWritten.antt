@@ -1,15 +1,16 @@
 -- The walk of a step: how it begins, a stretch that shows the same, a change with room and without, how it ends. In order: the buffers; the walk's own
 -- laws; the ways out of `pass`.
 -- Assumes nothing.
-use Rattle.std.proofs.Common.{◌≡◌, ℕ, suc, ◌+◌, ◌-◌, ◌<◌, ◌≤◌, min, Bool, true, false, eqb, List, [], ◌∷◌, ◌++◌, map, length, get_or, drop, set, sym, refl, ap, ◌∙◌, subst, ap₂, true≢false, append_assoc, arith, length-append, length-drop, drop-cons, eqb-true}
+use Rattle.std.proofs.Common.{◌≡◌, ℕ, suc, ◌+◌, ◌-◌, ◌<◌, ◌≤◌, min, Bool, true, false, eqb, List, [], ◌∷◌, ◌++◌, map, length, get_or, drop, set, sym, refl, ap, ◌∙◌, subst, ap₂, append_assoc, arith, length-append, length-drop, drop-cons, eqb-true}
 use native.Mathlib.Nat.{sub_self, sub-zero}
 use borrow.Author.Tests.{eqb-false}
 use lib.ListN.{length-map}
 use lib.Seq.{set-append_seam}
 use Rattle.rule.specs.History.{changes}
 use Rattle.rule.proofs.Walk.{reach_by, changes-same, reach-same, changes-more, reach-more, reach_full, reach-goal}
-use Rattle.course.specs.declared.stretch.Walk.{Walk}
-use Rattle.course.specs.Journey.{Journey, room, WrittenUpTo, WalkEnds, PassPromise}
+use Rattle.timetable.specs.declared.Timetable.{Timetable}
+use Rattle.course.specs.declared.Walk.{Walk}
+use Rattle.course.specs.Journey.{Journey, room, WrittenUpTo, WalkEnds, Written, AtClock, journey_of}
 use Rattle.course.specs.Columns.{into, instants_of, octets_of}
 
 -- the buffers
@@ -120,15 +121,17 @@ module _ (j : Journey) where
     pub written-goal : t ≡ j.goal → WalkEnds j t n at os
     written-goal e = ends (ap (λ v. reach_by j.shows v (j.goal - v) (room j - n)) e ∙ reach-goal j.shows j.goal (room j - n))
 
+-- a walk that is to begin at the clock
+pub begins_written : (g : Timetable) (goal : ℕ) (w : Walk) → AtClock g w → g.times.clock ≤ goal
+    → Written (journey_of g goal w.instants.now w.octets.now) g.times.clock w
+begins_written g goal w b h = rw b.none (written_start (journey_of g goal w.instants.now w.octets.now) w.octet h b.octet)
+
 -- the ways out of `pass`
 
-module _ (x u e : ℕ) (w : Walk) (at os : List ℕ) (some : 1 ≤ u) (after : u < e) where
-  pub passes_same : x ≡ w.octet → PassPromise x u e w at os (record { at = e - 1; octet = x; written = w.written; full = false }) at os
-  passes_same q j k goal all = record {
-    on = λ _. rw q (written_same j (u - 1) w.octet w.written at os k (e - 1) (omega arith) (omega arith) (λ v a b. same v a b));
-    stands = λ _. refl;
-    stopped = λ z. absurd (true≢false (sym z));
-  }
+module _ (x u e : ℕ) (w : Walk) (some : 1 ≤ u) (after : u < e) (j : Journey) (k : Written j (u - 1) w) (goal : e ≤ j.goal + 1)
+    (all : (v : ℕ) → u ≤ v → v < e → j.shows v ≡ x) where
+  pub passes_same : x ≡ w.octet → Written j (e - 1) w
+  passes_same q = written_same j (u - 1) w.octet w.written w.instants.now w.octets.now k (e - 1) (omega arith) (omega arith) same
     where
       same : (v : ℕ) → u - 1 ≤ v → v ≤ e - 1 → j.shows v ≡ j.shows (u - 1)
       same v a b = pick (eqb v (u - 1)) refl
@@ -137,28 +140,19 @@ module _ (x u e : ℕ) (w : Walk) (at os : List ℕ) (some : 1 ≤ u) (after : u
           pick true z = ap j.shows (eqb-true v (u - 1) z)
           pick false z = all v (omega (arith, eqb-false)) (omega arith) ∙ q ∙ k.shows
 
-  pub passes_full : (x ≡ w.octet → ⊥) → min (length at) (length os) ≤ w.written
-      → PassPromise x u e w at os (record { at = u - 1; octet = w.octet; written = w.written; full = true }) at os
-  passes_full d h j k goal all =
-      let r = written-room j (u - 1) w.octet w.written at os k in
+  pub passes_full : (x ≡ w.octet → ⊥) → min (length w.instants.now) (length w.octets.now) ≤ w.written → WalkEnds j (u - 1) w.written w.instants.now w.octets.now
+  passes_full d h =
+      let r = written-room j (u - 1) w.octet w.written w.instants.now w.octets.now k in
       let s : suc (u - 1) ≡ u = omega arith in
-      record {
-        on = λ z. absurd (true≢false z);
-        stands = λ z. absurd (true≢false z);
-        stopped = λ _. written_full j (u - 1) w.octet w.written at os k x (sym (ap j.shows s ∙ all u (omega arith) after)) d (omega arith) (omega arith);
-      }
+      written_full j (u - 1) w.octet w.written w.instants.now w.octets.now k x (sym (ap j.shows s ∙ all u (omega arith) after)) d (omega arith) (omega arith)
 
-  pub passes-more : (x ≡ w.octet → ⊥) → w.written < min (length at) (length os)
-      → PassPromise x u e w at os (record { at = e - 1; octet = x; written = w.written + 1; full = false }) (set at w.written u) (set os w.written x)
-  passes-more d h j k goal all =
-      let r = written-room j (u - 1) w.octet w.written at os k in
+  pub passes-more : (x ≡ w.octet → ⊥) → w.written < min (length w.instants.now) (length w.octets.now)
+      → WrittenUpTo j (e - 1) x (w.written + 1) (set w.instants.now w.written u) (set w.octets.now w.written x)
+  passes-more d h =
+      let r = written-room j (u - 1) w.octet w.written w.instants.now w.octets.now k in
       let s : suc (u - 1) ≡ u = omega arith in
-      let m = written-more j (u - 1) w.octet w.written at os k x (sym (ap j.shows s ∙ all u (omega arith) after)) d (omega arith) (omega arith) in
-      let m' : WrittenUpTo j u x (w.written + 1) (set at w.written u) (set os w.written x) =
-      subst (λ v. WrittenUpTo j v x (w.written + 1) (set at w.written v) (set os w.written x)) s m in
-      record {
-        on = λ _. written_same j u x (w.written + 1) (set at w.written u) (set os w.written x) m' (e - 1) (omega arith) (omega arith)
-            (λ v a b. all v a (omega arith) ∙ sym (all u (omega arith) after));
-        stands = λ _. refl;
-        stopped = λ z. absurd (true≢false (sym z));
-      }
+      let m = written-more j (u - 1) w.octet w.written w.instants.now w.octets.now k x (sym (ap j.shows s ∙ all u (omega arith) after)) d (omega arith) (omega arith) in
+      let m' : WrittenUpTo j u x (w.written + 1) (set w.instants.now w.written u) (set w.octets.now w.written x) =
+      subst (λ v. WrittenUpTo j v x (w.written + 1) (set w.instants.now w.written v) (set w.octets.now w.written x)) s m in
+      written_same j u x (w.written + 1) (set w.instants.now w.written u) (set w.octets.now w.written x) m' (e - 1) (omega arith) (omega arith)
+      (λ v a b. all v a (omega arith) ∙ sym (all u (omega arith) after))

@@ -5,7 +5,6 @@
 use Rattle.std.proofs.Common.{◌≡◌, ℕ, zero, suc, ◌+◌, ◌-◌, ◌*◌, ◌%◌, ◌<◌, ◌≤◌, min, Bool, true, false, ltb, List, length, get_or, sym, refl, ap, ◌∙◌, mod-eq_of_lt, suc-mul, zero-mul, arith, ltb-false, ltb-true}
 use native.Mathlib.Nat.{mod-add-mod, add-mod-mod}
 use Rattle.course.specs.Period.{CanRepeat, WrittenAgain, later, same}
-use Rattle.course.proofs.PlacesAgain.{again_none}
 
 -- h, so many times
 pub repeated : (ℕ → ℕ) → ℕ → ℕ → ℕ
@@ -89,43 +88,20 @@ pub record Doubles (count period n end : ℕ) (at₀ os₀ : List ℕ) (size tim
   pub octets : WrittenAgain same count n done os₀ os
 
 module _ (count period n end : ℕ) (at₀ os₀ : List ℕ) where
-  pub doubles_none : n ≤ end → period < 18446744073709551616 → Doubles count period n end at₀ os₀ count period n at₀ os₀
-  doubles_none h b = record {
-    from = omega arith;
-    upto = h;
-    more = 0;
-    timed = let e : period + 0 * period ≡ period = omega (arith, zero-mul period) in sym (ap (λ k. k % 18446744073709551616) e ∙ mod-eq_of_lt b);
-    sized = λ z. omega (arith, zero-mul count);
-    front = λ z. omega arith;
-    instants = again_none (later period) count n at₀;
-    octets = again_none same count n os₀;
-  }
-
   module _ (can : CanRepeat count n end (length at₀) (length os₀)) (size time done : ℕ) (at os : List ℕ) (k : Doubles count period n end at₀ os₀ size time done at os)
-      (on : done < end) (upto : ℕ) (u : upto ≡ min (done + size) end) where
+      (on : done < end) (left : ℕ) (u : left ≡ min size (end - done)) where
+    abbrev upto : ℕ
+    upto = done + left
+
     some : 1 ≤ count
     some = let a = k.from in can.some (omega arith)
 
     held : count ≤ n
     held = let a = k.from in can.held (omega arith)
 
-    -- there is something to write, from what is there
-    pub doubles_on : done < upto
-    doubles_on = let a = some in let b = k.sized on in omega arith
-
-    block : (l : ℕ) → end ≤ l → CanRepeat size done upto l l
-    block l h =
-        let a = some in
-        let b = held in
-        let c = k.sized on in
-        let d = k.front on in
-        record { upto = omega arith; some = λ z. omega arith; held = λ z. omega arith; fits = λ z. omega arith }
-
-    pub block_instants : CanRepeat size done upto (length at) (length at)
-    block_instants = let a = k.from in let f = can.fits (omega arith) in let e = k.instants.long in block (length at) (omega arith)
-
-    pub block_octets : CanRepeat size done upto (length os) (length os)
-    block_octets = let a = k.from in let f = can.fits (omega arith) in let e = k.octets.long in block (length os) (omega arith)
+    -- the next block copies what is there, inside the buffer
+    pub block_held : (size ≤ done) × ((upto ≤ done + size) × (upto ≤ length os))
+    block_held = let a = k.from in let b = held in let d = k.front on in let f = can.fits (omega arith) in let e = k.octets.long in (omega arith, (omega arith, omega arith))
 
     -- and so twice as much is there
     pub doubles_more : end < 18446744073709551616 → (at' os' : List ℕ) → WrittenAgain (later time) size done upto at at' → WrittenAgain same size done upto os os'

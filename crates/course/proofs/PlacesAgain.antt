@@ -1,33 +1,21 @@
--- Places of a buffer that are written again, each from one that is count places before it. In order: how many rounds there is room for; one place more; a
--- buffer that holds values which repeat. The changes that repeat are in `Recurring`.
+-- Places of a buffer that are written again, each from one that is count places before it. In order: rounds for which there is room; a block
+-- copied; a buffer that holds values which repeat. The changes that repeat are in `Recurring`.
 -- Assumes nothing.
-use Rattle.std.proofs.Common.{◌≡◌, ℕ, zero, suc, ◌+◌, ◌-◌, ◌*◌, ◌/◌, ◌<◌, ◌≤◌, min, Bool, true, false, eqb, ltb, List, ◌++◌, length, get_or, drop, set, sym, refl, ap, ◌∙◌, mul-zero, le-div_iff_mul-le, arith, length-append, length-set, get_or-drop, get_or-set_other, get_or-set_same, get_or-append-add, ext_get_or, ltb-false, ltb-true, eqb-true}
-use borrow.Author.Tests.{eqb-false}
+use Rattle.std.proofs.Common.{◌≡◌, ℕ, zero, suc, ◌+◌, ◌-◌, ◌*◌, ◌<◌, ◌≤◌, min, Bool, true, false, ltb, List, ◌++◌, length, get_or, drop, sym, refl, ap, ◌∙◌, mul-zero, arith, length-append, get_or-drop, get_or-append-add, ext_get_or, ltb-false, ltb-true}
 use lib.ListN.{get_or-append}
+use Rattle.std.specs.List.{CopiedTo, SameBelow, SameFrom}
 use Rattle.course.specs.Columns.{into}
-use Rattle.course.specs.Period.{CanRepeat, WrittenAgain}
+use Rattle.course.specs.Period.{CanRepeat, WrittenAgain, same}
 use Rattle.course.proofs.ChangesWritten.{length-into}
 
 -- how many rounds there can be
 
--- no more than a quotient take no more than what was divided
-pub times_div : (k x c : ℕ) → 0 < c → k ≤ x / c → k * c ≤ x
-times_div k x c pos h = (le-div_iff_mul-le pos).0 h
-
--- rounds of nothing take nothing
-pub times_none : (k x c : ℕ) → c ≡ 0 → k * c ≤ x
-times_none k x c e = let z : k * c ≡ 0 = ap (λ q. k * q) e ∙ mul-zero k in omega arith
-
--- and where they take something, each does
+-- rounds that take something: each does
 times_some : (k c : ℕ) → 0 < k * c → 1 ≤ c
 times_some k zero h = omega (arith, mul-zero k)
 times_some k (suc c) h = omega arith
 
 module _ (count n a b r : ℕ) (free : r ≡ min a b - n) (k : ℕ) (upto : k * count ≤ r) where
-  -- so many periods fit
-  pub free_fits : n < 18446744073709551616 → a < 18446744073709551616 → n + k * count < 18446744073709551616
-  free_fits h l = omega arith
-
   -- so many can be repeated
   pub free_can_repeat : count ≤ n → CanRepeat count n (n + k * count) a b
   free_can_repeat held = record {
@@ -39,29 +27,15 @@ module _ (count n a b r : ℕ) (free : r ≡ min a b - n) (k : ℕ) (upto : k * 
 
 -- the places that are written again
 
-module _ (h : ℕ → ℕ) (count n : ℕ) where
-  -- none yet
-  pub again_none : (l : List ℕ) → WrittenAgain h count n n l l
-  again_none l = record { long = refl; before = λ i a. refl; repeats = λ i a b. absurd (omega arith); behind = λ i a. refl }
-
-  -- one place more
-  pub again_more : (i v : ℕ) (old new : List ℕ) → WrittenAgain h count n i old new → 1 ≤ count → count ≤ n → n ≤ i → i < length new
-      → v ≡ h (get_or new (i - count) 0) → WrittenAgain h count n (i + 1) old (set new i v)
-  again_more i v old new r some held upto fits e = record {
-    long = length-set new i v ∙ r.long;
-    before = λ k a. get_or-set_other new i k v 0 (λ z. omega arith) ∙ r.before k a;
-    repeats = λ k a b. pick k a b (eqb k i) refl;
-    behind = λ k a. get_or-set_other new i k v 0 (λ z. omega arith) ∙ r.behind k (omega arith);
-  }
-    where
-      pick : (k : ℕ) → n ≤ k → k < i + 1 → (b : Bool) → eqb k i ≡ b → get_or (set new i v) k 0 ≡ h (get_or (set new i v) (k - count) 0)
-      pick k a b true z =
-          let w : k ≡ i = eqb-true k i z in
-          ap (λ q. get_or (set new i v) q 0) w ∙ get_or-set_same new i v 0 fits ∙ e
-          ∙ ap h (sym (ap (λ q. get_or (set new i v) (q - count) 0) w ∙ get_or-set_other new i (i - count) v 0 (λ z. omega arith)))
-      pick k a b false z =
-          let w = eqb-false k i z in
-          get_or-set_other new i k v 0 w ∙ r.repeats k a (omega arith) ∙ ap h (sym (get_or-set_other new i (k - count) v 0 (λ z. omega arith)))
+-- a block of no more than count places, copied from count places before
+pub copied_again : (count n end : ℕ) (old new : List ℕ) → count ≤ n → n ≤ end → end ≤ n + count → length new ≡ length old
+    → CopiedTo old new (n - count) n (end - count - (n - count)) × SameBelow old new n × SameFrom old new (n + (end - count - (n - count))) → WrittenAgain same count n end old new
+copied_again count n end old new held upto short long k = record {
+  long = long;
+  before = λ i a. k.1 i 0 a;
+  repeats = λ i a b. let e : n - count + (i - n) ≡ i - count = omega arith in k.0 i 0 a (omega arith) ∙ ap (λ q. get_or old q 0) e ∙ sym (k.1 (i - count) 0 (omega arith));
+  behind = λ i a. k.2 i 0 (omega arith);
+}
 
 -- what stands in a buffer: the values from place 0 on, and behind them what was there
 into_front : (vs buf : List ℕ) (i : ℕ) → i < length vs → get_or (into vs buf) i 0 ≡ get_or vs i 0

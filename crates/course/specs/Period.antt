@@ -1,12 +1,12 @@
 -- A round is the changes of one period of a list that rules. What it is to write it again, one period later, and to walk a stretch so.
 -- Assumes nothing.
-use Rattle.std.specs.Prelude.{◌≡◌, ℕ, ◌+◌, ◌-◌, ◌*◌, ◌%◌, ◌<◌, ◌≤◌, min, false, List, length, slice_index}
+use Rattle.std.specs.Prelude.{◌≡◌, ℕ, ◌+◌, ◌-◌, ◌*◌, ◌%◌, ◌<◌, ◌≤◌, min, List, length, slice_index}
 use Rattle.rule.specs.History.{changes}
 use Rattle.rule.specs.Cycle.{Config}
-use Rattle.course.specs.declared.stretch.Walk.{Walk}
+use Rattle.course.specs.declared.Walk.{Walk}
 use Rattle.timetable.specs.declared.cursor.Stretch.{Stretch}
 use Rattle.timetable.specs.Stretch.{Runs}
-use Rattle.course.specs.Journey.{Journey, WrittenUpTo, WalkOutcome}
+use Rattle.course.specs.Journey.{Journey, Walked, Written, WalkOutcome}
 use Rattle.course.specs.Stretch.{CyclesShown}
 
 -- what it takes to write the places from n to before end, each from the one count places before it, in buffers of lengths a and b
@@ -31,16 +31,15 @@ abbrev pub same : ℕ → ℕ
 same x = x
 
 -- from t on, whole periods to no later than last, each with the last count changes written again
-pub record GoneByPeriods (t last period count : ℕ) (w : Walk) (at os : List ℕ) (r : Walk) (at' os' : List ℕ) : Type 0 where
+pub record GoneByPeriods (t last period count : ℕ) (w : Walk) (at : ℕ) (r : Walk) : Type 0 where
   pub periods : ℕ
-  pub stands : r.at ≡ t + periods * period
-  pub upto : r.at ≤ last
+  pub stands : at ≡ t + periods * period
+  pub upto : at ≤ last
   pub octet : r.octet ≡ w.octet
-  pub goes : r.full ≡ false
   pub written : r.written ≡ w.written + periods * count
-  pub repeatable : CanRepeat count w.written r.written (length at) (length os)
-  pub instants : WrittenAgain (later period) count w.written r.written at at'
-  pub octets : WrittenAgain same count w.written r.written os os'
+  pub repeatable : CanRepeat count w.written r.written (length w.instants.now) (length w.octets.now)
+  pub instants : WrittenAgain (later period) count w.written r.written w.instants.now r.instants.now
+  pub octets : WrittenAgain same count w.written r.written w.octets.now r.octets.now
 
 -- the start of the cycle that runs at t: of the one from base, or of the next
 pub record BaseAt (base period t r : ℕ) : Type 0 where
@@ -55,7 +54,10 @@ pub record PeriodChanges (j : Journey) (f : Config) (t period count : ℕ) : Typ
 
 -- the walk of a stretch before which the changes of one period are the last written, those since there were so many; by any step and configuration that it
 -- is a stretch of
-abbrev pub RepeatPromise : List ℕ → List ℕ → Stretch → ℕ → Walk → List ℕ → List ℕ → Walk → List ℕ → List ℕ → Type 0
-RepeatPromise os vs s since w at cs r at' cs' = (j : Journey) (f : Config) (t : ℕ) → s.from ≡ t + s.period + 1
-    → PeriodChanges j f t s.period (w.written - since) → CyclesShown j f os vs s.len s.period t s.edge → Runs f s
-    → WrittenUpTo j (s.from - 1) w.octet w.written at cs → WalkOutcome j (s.edge - 1) r at' cs'
+abbrev pub RepeatPromise : List ℕ → List ℕ → Stretch → ℕ → Walk → Walked → Walk → Type 0
+RepeatPromise os vs s since w r w' = (j : Journey) (f : Config) (t : ℕ) → s.from ≡ t + s.period + 1 → PeriodChanges j f t s.period (w.written - since)
+    → CyclesShown j f os vs s.list.len s.period t s.edge → Runs f s → Written j (s.from - 1) w → WalkOutcome j (s.edge - 1) r w'
+
+-- the same of a stretch with its own list
+abbrev pub AgainPromise : Stretch → ℕ → Walk → Walked → Walk → Type 0
+AgainPromise s since w r w' = RepeatPromise s.list.octets.now s.list.intervals.now s since w r w'

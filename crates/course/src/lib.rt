@@ -2,6 +2,7 @@
 // writes nothing.
 #![tactic(auto)]
 
+mod leg;
 mod periods;
 mod spans;
 mod stretch;
@@ -9,56 +10,67 @@ mod stretch;
 ghost use Rattle.course.specs.Travel.{Travels};
 ghost use Rattle.course.specs.Journey.{OrderPromise};
 
-use crate::spans::walk_to;
-use rule::{Answer, Refusal};
-use timetable::{Times, formed, minus, shown_at};
+use rule::Refusal;
+use timetable::Timetable;
 
-// What a travel comes to: refused for a reason, or so many changes written, and the instant that it reaches.
-#[derive(Clone, Copy)]
-pub enum Course {
-    Stays(Refusal),
-    Goes(usize, u64),
+// What a travel comes to: so many changes written, and the instant that it reaches.
+#[derive(Clone, Copy, Debug, PartialEq, Eq)]
+pub struct Reached {
+    pub written: usize,
+    pub at: u64,
 }
 
-// The largest instant, in nanoseconds.
-const LARGEST_INSTANT: u64 = 9_000_000_000_000_000_000;
+// A walk: the octet shown where it has come to, how many changes it has written up to there, and the buffers lent for them. One that cannot go on, as its
+// next change finds no room, answers with an Err what the travel comes to.
+// Each method promises SameLoans: a ghost field that says it needs a bound with the loans' names, picked at a call, and a type argument on each: no plainer.
+#[derive(Drop)]
+struct Walk<'a> {
+    octet: u8,
+    written: usize,
+    instants: &'a mut [u64],
+    octets: &'a mut [u8],
+}
 
 // The order of Step: 14, 9, 10, 11.
-fn order(malformed: bool, longest: u64, goal: u64, clock: u64) -> Answer
+fn order(malformed: bool, longest: u64, goal: u64, clock: u64) -> Result<(), Refusal>
     ensures { OrderPromise malformed longest goal clock result }
 {
-    let far = longest < minus(goal, clock);
-    let third = rule::first(far, Refusal::StepTooLong, Answer::Done);
+    let far = longest < goal.saturating_sub(clock);
+    let above = Timetable::LARGEST_INSTANT < goal;
+    let third = rule::first(far, Refusal::StepTooLong, Ok(()));
     let second = rule::first(goal < clock, Refusal::BeforeClock, third);
-    let behind = rule::first(LARGEST_INSTANT < goal, Refusal::AboveLargest, second);
+    let behind = rule::first(above, Refusal::AboveLargest, second);
     rule::first(malformed, Refusal::MalformedPort, behind)
 }
 
-// Walks a timetable, whose lists stand in lent arrays, from its clock to a goal, by at most the longest step. `fit` says that the rest of the record that it
-// stands in is well formed. Each change is written, instant and octet, from place 0 on, and every other place stays as it was; where a change has no
-// room, the walk ends 1 ns before it. Refused: 14, 9, 10, 11.
-pub fn travel<'a>(
-    x: Times,
-    os: &'a [u8; 128],
-    vs: &'a [u32; 128],
-    ws: &'a [u8; 128],
-    zs: &'a [u32; 128],
+// Walks a timetable from its clock to a goal, by at most the longest step. `fit` says that the rest of the record that it stands in is well formed. Each
+// change is written, instant and octet, from place 0 on, and every other place stays as it was; where a change has no room, the walk ends 1 ns before it.
+// Refused: 14, 9, 10, 11. The two buffers are lent apart, as they are by the C interface.
+pub fn travel(
+    g: &Timetable,
     fit: bool,
     longest: u64,
     goal: u64,
     instants: &mut [u64],
     octets: &mut [u8],
-) -> Course
-    ensures { Travels fit longest goal (record { times = x; octets = os.now; intervals = vs.now; newoctets = ws.now; newintervals = zs.now }) instants.old instants.new octets.old octets.new result }
+) -> Result<Reached, Refusal>
+    ensures { Travels fit longest goal g.now instants.old instants.new octets.old octets.new result }
 {
-    let sound = fit & formed(x, os, vs, ws, zs);
-    let clock = x.clock;
-    match order(!sound, longest, goal, clock) {
-        Answer::Refused(reason) => Course::Stays(reason),
-        Answer::Done => {
-            let octet = shown_at(x, os, vs, ws, zs, clock);
-            let w = walk_to(x, os, vs, ws, zs, octet, goal, instants, octets);
-            Course::Goes(w.written, w.at)
-        }
+    let sound = fit & g.formed();
+    let clock = g.times.clock;
+    order(!sound, longest, goal, clock)?;
+    let octet = g.shown_at(clock);
+    let mut w = Walk {
+        octet,
+        written: 0,
+        instants,
+        octets,
+    };
+    match w.walk_to(g, goal) {
+        Ok(()) => Ok(Reached {
+            written: w.written,
+            at: goal,
+        }),
+        Err(full) => Ok(full),
     }
 }

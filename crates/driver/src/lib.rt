@@ -2,18 +2,16 @@
 // every octet of the record as it is. Crate `driver_c` exports it to C: include/port.h has the record and what a caller must keep.
 #![tactic(auto)]
 
-ghost use Rattle.std.specs.Prelude.{◌≡◌};
-ghost use Rattle.driver.specs.Lent.{answer_for, Lends};
-ghost use Rattle.driver.specs.Framing.{Frames};
+ghost use Rattle.driver.specs.Lent.{Answers, Lends};
 
-use frames::{Choice, Frame, decide};
+use frames::{Sending, decide};
 use port::Port;
-use timetable::Times;
+use rule::Refusal;
 
 // What a lent transmit answers, in numbers: that of the refusal, or 0; and whether a frame was chosen (1) or not (0), with its class, start, last octet
 // and earliest next start. What does not apply is 0.
 #[repr(C)]
-#[derive(Clone, Copy)]
+#[derive(Clone, Copy, Debug, Default, PartialEq, Eq)]
 pub struct Answer {
     pub number: u8,
     pub chosen: u8,
@@ -23,62 +21,27 @@ pub struct Answer {
     pub end: u64,
 }
 
-// The answer, and the frame of the port after the call.
-#[derive(Clone, Copy)]
-struct Framed {
-    answer: Answer,
-    frame: Frame,
-}
+// The answer of a choice in numbers.
+impl From<Result<Option<Sending>, Refusal>> for Answer {
+    ghost from_gives = { Answers };
 
-fn numbered(choice: Choice) -> Answer
-    ensures { result ≡ answer_for choice }
-{
-    match choice {
-        Choice::Frame(class, start, last, end) => Answer {
-            number: 0,
-            chosen: 1,
-            class,
-            start,
-            last,
-            end,
-        },
-        Choice::Nothing => Answer {
-            number: 0,
-            chosen: 0,
-            class: 0,
-            start: 0,
-            last: 0,
-            end: 0,
-        },
-        Choice::Refused(reason) => Answer {
-            number: rule::number(reason),
-            chosen: 0,
-            class: 0,
-            start: 0,
-            last: 0,
-            end: 0,
-        },
+    fn from(choice: Result<Option<Sending>, Refusal>) -> Self {
+        match choice {
+            Ok(Some(sending)) => Answer {
+                number: 0,
+                chosen: 1,
+                class: sending.class,
+                start: sending.start,
+                last: sending.last,
+                end: sending.end,
+            },
+            Ok(None) => Answer::default(),
+            Err(reason) => Answer {
+                number: u8::from(reason),
+                ..Answer::default()
+            },
+        }
     }
-}
-
-// The choice on a timetable whose lists stand in lent arrays, and a frame.
-fn framed_of<'a>(
-    x: Times,
-    os: &'a [u8; 128],
-    vs: &'a [u32; 128],
-    ws: &'a [u8; 128],
-    zs: &'a [u32; 128],
-    f: Frame,
-    heads: [u64; 8],
-    speed: u64,
-) -> Framed
-    ensures { Frames heads speed (record { times = x; octets = os.now; intervals = vs.now; newoctets = ws.now; newintervals = zs.now }) f result }
-{
-    let d = decide(x, os, vs, ws, zs, f, heads, speed);
-    let choice = d.answer;
-    let frame = d.frame;
-    let answer = numbered(choice);
-    Framed { answer, frame }
 }
 
 // Chooses a frame by the heads of the eight queues (0: empty) and the speed in Mbit/s, and stores it in the lent port, field by field, so that no octet
@@ -86,21 +49,13 @@ fn framed_of<'a>(
 pub fn kurfandaz_transmit(p: &mut Port, heads: &[u64; 8], speed: u64) -> Answer
     ensures { Lends heads.now speed p.old result p.new }
 {
-    let c = framed_of(
-        p.gates.times,
-        &p.gates.octets,
-        &p.gates.intervals,
-        &p.gates.newoctets,
-        &p.gates.newintervals,
-        p.frame,
-        *heads,
-        speed,
-    );
-    p.frame.present = c.frame.present;
-    p.frame.class = c.frame.class;
-    p.frame.counted = c.frame.counted;
-    p.frame.start = c.frame.start;
-    p.frame.last = c.frame.last;
-    p.frame.end = c.frame.end;
-    c.answer
+    let d = decide(&p.gates, p.frame, *heads, speed);
+    let frame = d.frame;
+    p.frame.present = frame.present;
+    p.frame.class = frame.class;
+    p.frame.counted = frame.counted;
+    p.frame.start = frame.start;
+    p.frame.last = frame.last;
+    p.frame.end = frame.end;
+    Answer::from(d.answer)
 }

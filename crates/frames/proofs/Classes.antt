@@ -1,93 +1,75 @@
 -- The choice of a frame by its parts. In order: what is asked for; the highest class and its frame; gates that stay open; the classes that qualify.
 -- Assumes nothing.
-use mathlib.Core.Path.{◌≡◌, refl, ap, ap₂, sym, ◌∙◌}
-use mathlib.Core.Bool.{Bool, true, false, cond, ◌&&◌, ◌||◌, true≢false}
-use mathlib.Core.List.{List}
-use mathlib.Core.Option.{none, some}
-use Prim.Native.Nat.{ℕ, zero, suc, ◌+◌, ◌-◌, ◌*◌, ◌/◌, ◌^◌, ◌≤◌, ◌<◌, max}
-use native.Mathlib.Nat.{div-eq_of_lt, le-div_iff_mul-le, div-lt_iff_lt-mul, pow-suc}
-use native.Mathlib.Omega.{arith}
-use lib.Bits.{bit_and, bit_or}
+use Rattle.std.proofs.Common.{◌≡◌, refl, ap, ap₂, sym, ◌∙◌, Bool, true, false, cond, ◌&&◌, ◌||◌, true≢false, List, ℕ, zero, suc, ◌+◌, ◌-◌, ◌/◌, ◌^◌, ◌≤◌, ◌<◌, max, le-div_iff_mul-le, div-lt_iff_lt-mul, pow-suc, arith, bit_and, bit_or, eqb, leb, length, get_or, set, pow_pos, pow_mono, get_or-set_same, get_or-set_other, leb-true, leb-false, eqb-true}
+use native.Mathlib.Nat.{div-eq_of_lt}
 use lib.Count.{count_leading_zeros, leading_top}
-use lib.Dec.{eqb, leb}
-use lib.ListN.{length, get_or, set}
-use lib.Pow.{pow_pos, pow_mono}
-use lib.Seq.{get_or-set_same, get_or-set_other}
-use borrow.Author.Tests.{leb-true, leb-false, eqb-true, eqb-false}
+use Rattle.std.proofs.lemmas.Bool.{eqb-false}
+use Rattle.std.proofs.Math.Option.{none, some}
 use Rattle.rule.specs.Limits.{largest_instant, longest_span}
 use Rattle.rule.specs.Gates.{is_open}
 use Rattle.rule.specs.Choice.{duration, next_start, stays_open, qualifies, highest, frame_for, chosen}
-use Rattle.rule.proofs.Sound.{duration-short, next-short}
+use Rattle.rule.proofs.Sound.{next-short}
 use Rattle.rule.proofs.Choice.{open_still, open_each, highest-same, speed_range}
 use Rattle.frames.specs.declared.ahead.Gates.{Gates}
 use Rattle.frames.specs.declared.Frame as declared
 use Rattle.frames.specs.Ahead.{Known, Tells}
 use Rattle.frames.specs.Frame.{encode_frame, no_frame}
 use Rattle.frames.specs.Choosing.{Sets, headed, Asks, Offered, Near, Begins}
-use Rattle.frames.proofs.Lasting.{duration_times}
 use Rattle.frames.proofs.Octets.{gate-and, gate-or, gate_none, forms_none, forms_more, forms_at}
 
 -- what is asked for
 
-module _ (heads : List ℕ) (speed : ℕ) (o : Offered heads speed) where
-  pub length-short : (k : ℕ) → (get_or heads k 0 + 8) * (8_000 / speed) ≤ longest_span
-  length-short k =
-      let e = duration_times (get_or heads k 0) speed o.fast in
-      let d = duration-short (get_or heads k 0) speed (o.short k) (speed_range speed o.fast).0 in
-      omega arith
+pub asks_none : (heads : List ℕ) (speed t : ℕ) (ends : List ℕ) → Asks heads speed t 0 0 t ends
+asks_none heads speed t ends = record {
+  formed = forms_none (headed heads);
+  each = λ k h. absurd (omega arith);
+  from = omega arith;
+  upto = λ k h e. absurd (omega arith);
+  near = omega arith;
+}
 
-  pub asks_none : (t : ℕ) (ends : List ℕ) → Asks heads speed t 0 0 t ends
-  asks_none t ends = record {
-    formed = forms_none (headed heads);
-    each = λ k h. absurd (omega arith);
-    from = omega arith;
-    upto = λ k h e. absurd (omega arith);
-    near = omega arith;
-  }
+-- one class more: the last instant is later if the class has a frame
+pub asks_more : (heads : List ℕ) (speed t n wanted last : ℕ) (ends : List ℕ) → Asks heads speed t n wanted last ends → n < length ends → (w end later : ℕ)
+    → end ≡ t + duration (get_or heads n 0) speed → end ≤ t + longest_span → Sets n (headed heads n) wanted w → later ≡ cond (headed heads n) (max last end) last
+    → Asks heads speed t (n + 1) w later (set ends n end)
+asks_more heads speed t n wanted last ends a l w end later e i s m = record {
+  formed = forms_more (headed heads) n wanted w (headed heads n) a.formed refl s;
+  each = λ k h. each k h (eqb k n) refl;
+  from = omega (arith, a.from, some (headed heads n) refl);
+  upto = λ k h q. upto k h q (eqb k n) refl;
+  near = few (headed heads n) m;
+}
+  where
+    some : (b : Bool) → headed heads n ≡ b → last ≤ later
+    some true q = let z : later ≡ max last end = m ∙ ap (λ b. cond b (max last end) last) q in omega arith
+    some false q = let z : later ≡ last = m ∙ ap (λ b. cond b (max last end) last) q in omega arith
 
-  pub asks_more : (t n wanted last : ℕ) (ends : List ℕ) → Asks heads speed t n wanted last ends → n < length ends → (w end until later : ℕ)
-      → end ≡ t + (get_or heads n 0 + 8) * (8_000 / speed) → Sets n (headed heads n) wanted w → until ≡ cond (headed heads n) end t → later ≡ max last until
-      → Asks heads speed t (n + 1) w later (set ends n end)
-  asks_more t n wanted last ends a l w end until later e s p m =
-      let z = a.from in
-      let y = a.near in
-      let i : end ≤ t + longest_span = omega (arith, length-short n) in
-      let j : until ≤ t + longest_span = part (headed heads n) p in
-      record {
-        formed = forms_more (headed heads) n wanted w (headed heads n) a.formed refl s;
-        each = λ k h. each k h (eqb k n) refl;
-        from = omega arith;
-        upto = λ k h q. upto k h q (eqb k n) refl;
-        near = omega arith;
-      }
-    where
-      part : (b : Bool) → until ≡ cond b end t → until ≤ t + longest_span
-      part true q = omega (arith, length-short n)
-      part false q = omega arith
+    few : (b : Bool) → later ≡ cond b (max last end) last → later ≤ t + longest_span
+    few true q = omega (arith, a.near)
+    few false q = omega (arith, a.near)
 
-      each : (k : ℕ) → k < n + 1 → (b : Bool) → eqb k n ≡ b → get_or (set ends n end) k 0 ≡ t + duration (get_or heads k 0) speed
-      each k h true z =
-          let c : k ≡ n = eqb-true k n z in
-          ap (λ i. get_or (set ends n end) i 0) c ∙ get_or-set_same ends n end 0 l ∙ e
-          ∙ ap (λ d. t + d) (duration_times (get_or heads n 0) speed o.fast) ∙ ap (λ i. t + duration (get_or heads i 0) speed) (sym c)
-      each k h false z = let c = eqb-false k n z in get_or-set_other ends n k end 0 c ∙ a.each k (omega arith)
+    each : (k : ℕ) → k < n + 1 → (b : Bool) → eqb k n ≡ b → get_or (set ends n end) k 0 ≡ t + duration (get_or heads k 0) speed
+    each k h true z =
+        let c : k ≡ n = eqb-true k n z in
+        ap (λ i. get_or (set ends n end) i 0) c ∙ get_or-set_same ends n end 0 l ∙ e ∙ ap (λ i. t + duration (get_or heads i 0) speed) (sym c)
+    each k h false z = let c = eqb-false k n z in get_or-set_other ends n k end 0 c ∙ a.each k (omega arith)
 
-      upto : (k : ℕ) → k < n + 1 → headed heads k ≡ true → (b : Bool) → eqb k n ≡ b → get_or (set ends n end) k 0 ≤ later
-      upto k h q true z =
-          let c : k ≡ n = eqb-true k n z in
-          let d : get_or (set ends n end) k 0 ≡ end = ap (λ i. get_or (set ends n end) i 0) c ∙ get_or-set_same ends n end 0 l in
-          let u : until ≡ end = p ∙ ap (λ i. cond (headed heads i) end t) (sym c) ∙ ap (λ b. cond b end t) q in
-          omega arith
-      upto k h q false z =
-          let c = eqb-false k n z in
-          let d = get_or-set_other ends n k end 0 c in
-          omega (arith, a.upto k (omega arith) q)
+    upto : (k : ℕ) → k < n + 1 → headed heads k ≡ true → (b : Bool) → eqb k n ≡ b → get_or (set ends n end) k 0 ≤ later
+    upto k h q true z =
+        let c : k ≡ n = eqb-true k n z in
+        let d : get_or (set ends n end) k 0 ≡ end = ap (λ i. get_or (set ends n end) i 0) c ∙ get_or-set_same ends n end 0 l in
+        let u : later ≡ max last end = m ∙ ap (λ i. cond (headed heads i) (max last end) last) (sym c) ∙ ap (λ b. cond b (max last end) last) q in
+        omega arith
+    upto k h q false z =
+        let c = eqb-false k n z in
+        let d = get_or-set_other ends n k end 0 c in
+        omega (arith, a.upto k (omega arith) q, some (headed heads n) refl)
 
-  pub gap_near : (t gap : ℕ) → t ≤ largest_instant → (ends : List ℕ) (wanted last : ℕ) → Asks heads speed t 8 wanted last ends → gap ≡ 96_000 / speed → Near ends gap
-  unfolding next_start
-  gap_near t gap h ends wanted last a p k l =
-      let d = next-short (get_or heads k 0) speed (o.short k) (speed_range speed o.fast).0 in
-      omega (arith, a.each k l)
+pub gap_near : (heads : List ℕ) (speed : ℕ) (o : Offered heads speed) (t gap : ℕ) → t ≤ largest_instant → (ends : List ℕ) (wanted last : ℕ) → Asks heads speed t 8 wanted last ends → gap ≡ 96_000 / speed → Near ends gap
+unfolding next_start
+gap_near heads speed o t gap h ends wanted last a p k l =
+    let d = next-short (get_or heads k 0) speed (o.short k) (speed_range speed o.fast).0 in
+    omega (arith, a.each k l)
 
 -- the highest class
 
@@ -127,8 +109,8 @@ top_bit octet j a b h =
     above : (k : ℕ) → j < k → octet < 2 ^ k
     above k l = omega (arith, pow_mono l)
 
-pub top-is : (octet : ℕ) → 0 < octet → octet < 256 → (count_leading_zeros 8 octet < 8) × (highest (is_open octet) 8 ≡ some (7 - count_leading_zeros 8 octet))
-top-is octet p h =
+pub top_is : (octet : ℕ) → 0 < octet → octet < 256 → (count_leading_zeros 8 octet < 8) × (highest (is_open octet) 8 ≡ some (7 - count_leading_zeros 8 octet))
+top_is octet p h =
     let t = leading_top 8 octet p h in
     let j : ℕ = t.0 in
     let e : j ≡ 7 - count_leading_zeros 8 octet = omega (arith, t.1) in
@@ -141,10 +123,10 @@ unfolding frame_for
 begins_none octet ends gap t z heads speed f p =
     sym (ap (λ o. encode_frame (frame_for heads speed t o)) (highest-empty (is_open octet) 8 (λ j h. ap (λ n. is_open n j) z ∙ gate_none j)))
 
-pub begins-top : (octet : ℕ) (ends : List ℕ) (gap t k : ℕ) → k < 8 → highest (is_open octet) 8 ≡ some k
+pub begins_top : (octet : ℕ) (ends : List ℕ) (gap t k : ℕ) → k < 8 → highest (is_open octet) 8 ≡ some k
     → Begins octet ends gap t (record { present = 1; class = k; counted = 0; start = t; last = get_or ends k 0; end = get_or ends k 0 + gap })
 unfolding frame_for next_start
-begins-top octet ends gap t k h e heads speed f p =
+begins_top octet ends gap t k h e heads speed f p =
     let d : ℕ = duration (get_or heads k 0) speed in
     let q : get_or ends k 0 + gap ≡ t + (d + 96_000 / speed) = omega (arith, f k h, p) in
     (λ i. record { present = 1; class = k; counted = 0; start = t; last = f k h i; end = q i })

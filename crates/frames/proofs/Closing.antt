@@ -1,39 +1,37 @@
 -- When gates close. In order: an octet shown; what a walk knows; the rest of a cycle, entry by entry; a stretch; a span; what the look ahead may be asked of.
 -- Assumes nothing.
-use mathlib.Core.Path.{◌≡◌, refl, ap, sym, ◌∙◌, subst, subst⁻¹}
-use mathlib.Core.Bool.{Bool, true, false, cond, not, ◌&&◌, ◌||◌, true≢false}
-use mathlib.Core.List.{List, []}
-use Prim.Native.Nat.{ℕ, zero, suc, ◌+◌, ◌-◌, ◌≤◌, ◌<◌, min}
-use native.Mathlib.Omega.{arith}
-use lib.Bits.{bit_and, bit_or, bit_xor}
-use lib.Dec.{leb, ltb}
-use lib.ListN.{get_or}
-use borrow.Author.Tests.{leb-true, leb-false, ltb-true, ltb-false, lt-ltb, le-ltb}
+use Rattle.std.proofs.Common.{◌≡◌, refl, ap, sym, ◌∙◌, subst, Bool, true, false, cond, not, ◌&&◌, ◌||◌, true≢false, List, [], ℕ, zero, suc, ◌+◌, ◌-◌, ◌≤◌, ◌<◌, min, arith, bit_and, bit_or, bit_xor, leb, ltb, get_or, leb-true, leb-false, ltb-true, ltb-false, lt-ltb, le-ltb}
+use mathlib.Core.Path.{subst⁻¹}
 use Rattle.rule.specs.Limits.{largest_instant, largest_cycle}
 use Rattle.rule.specs.Gates.{is_open}
 use Rattle.rule.specs.Entries.{octet_at}
 use Rattle.rule.specs.Cycle.{Config, Valid, plain_start, plain_octet}
 use Rattle.rule.specs.Timetable.{shown}
 use Rattle.rule.proofs.Regime.{Rules, rules_inside, same_start, next_own}
+use Rattle.std.specs.Prelude.{Some, None}
+use Rattle.gatelist.specs.declared.GateList.{GateList}
+use Rattle.gatelist.specs.declared.Entries.{Entries}
 use Rattle.gatelist.specs.declared.Place.{Place}
-use Rattle.gatelist.specs.Coding.{entries_from, list_of}
+use Rattle.gatelist.specs.Coding.{entries_from, list_of, lent}
 use Rattle.gatelist.specs.Lookup.{sum_to, place_at}
 use Rattle.gatelist.proofs.Lookup.{sum_more, Holds, holds-number, number-holds, number-octet}
 use Rattle.timetable.specs.declared.Times.{Times}
 use Rattle.timetable.specs.declared.Timetable.{Timetable}
 use Rattle.timetable.specs.declared.ruling.Span.{Span}
 use Rattle.timetable.specs.declared.cursor.Stretch.{Stretch}
+use Rattle.timetable.specs.declared.ruling.Which.{Which}
+use Rattle.timetable.specs.Record.{list_in}
+use Rattle.timetable.specs.Cursor.{Used}
 use Rattle.timetable.specs.Coding.{decode}
 use Rattle.timetable.specs.Checks.{Fine}
 use Rattle.timetable.specs.Regime.{span_at, Governs}
 use Rattle.timetable.specs.Stretch.{Walkable, Plays, Runs}
 use Rattle.timetable.proofs.Spans.{InTime, governs}
 use Rattle.timetable.proofs.Stretches.{plain_round}
-use Rattle.timetable.proofs.Records.{list_in, is_there, in_time, list-fine, list-used, table_flat, table_ruled}
+use Rattle.timetable.proofs.Records.{in_time, list-fine, list-used, table_flat, table_ruled}
 use Rattle.frames.specs.declared.ahead.Gates.{Gates}
-use Rattle.frames.specs.declared.ahead.Spot.{Spot}
 use Rattle.frames.specs.Choosing.{Forms}
-use Rattle.frames.specs.Ahead.{closed_by, Narrows, Known, Tells, reach, Cycles, Goes, Skips, Sweeps, SweepsList, Readable, Spans, SweepsSpan}
+use Rattle.frames.specs.Ahead.{closed_by, Narrows, Known, Tells, reach, Cycles, Goes, Sweeps, SweepsList, Readable, Spans, SweepsSpan}
 use Rattle.frames.proofs.Octets.{gate-and, gate-or, gate_less, gate_none, forms_at}
 use Rattle.frames.proofs.Classes.{stays_met}
 
@@ -156,46 +154,39 @@ entry-shows os vs n base i v a b c =
     number-octet os vs n (v - base) (omega arith)
     ∙ ap (λ k. get_or os k 0) (holds-number os vs n (v - base) i (record { one = a; from = omega arith; upto = λ l. omega (arith, c l) }))
 
-pub tells_entry : (os vs : List ℕ) (n base i at limit t wanted : ℕ) (ends : List ℕ) (h : ℕ → ℕ) (g r : Gates) → i < n → base + sum_to vs i ≤ at
-    → (i + 1 < n → at < base + sum_to vs i + get_or vs i 0) → at < limit → t ≤ at → Cycles h os vs n base at limit → Narrows (get_or os i 0) at ends g r
-    → Tells h t at wanted ends g → Tells h t (reach n (i + 1) (base + sum_to vs i + get_or vs i 0) limit) wanted ends r
-tells_entry os vs n base i at limit t wanted ends h g r a b c d l s w p = go (ltb (i + 1) n) refl
-  where
-    go : (x : Bool) → ltb (i + 1) n ≡ x → Tells h t (cond x (min (base + sum_to vs i + get_or vs i 0) limit) limit) wanted ends r
-    go true z =
-        let y = c (ltb-true (i + 1) n z) in
-        tells_more h t wanted ends at (min (base + sum_to vs i + get_or vs i 0) limit) (get_or os i 0) g r l (omega arith)
-        (λ v j k. s v j (omega arith) ∙ entry-shows os vs n base i v a (omega arith) (λ _. omega arith)) w p
-    go false z =
-        let y = ltb-false (i + 1) n z in
-        tells_more h t wanted ends at limit (get_or os i 0) g r l d
-        (λ v j k. s v j k ∙ entry-shows os vs n base i v a (omega arith) (λ q. absurd (omega arith))) w p
+module _ (l : Entries) (limit : ℕ) (ends : List ℕ) where
+  abbrev n : ℕ
+  n = l.len
 
-module _ (os vs : List ℕ) (n limit : ℕ) (ends : List ℕ) where
-  pub goes-start : (place from : ℕ) (g : Gates) → place ≤ n → Goes os vs n place from limit ends g place from g
-  goes-start place from g l = record { after = omega arith; within = l; later = omega arith; sums = λ b e. e; told = λ h t wanted base lo c e a b p. p }
+  abbrev os : List ℕ
+  os = l.octets.now
 
-  pub goes_on_lem : (place from i u k at : ℕ) (g r s : Gates) → Goes os vs n place from limit ends g i u r → Goes os vs n i u limit ends r k at s
-      → Goes os vs n place from limit ends g k at s
-  goes_on_lem place from i u k at g r s x y =
-      let a = x.after in
-      let b = y.after in
-      let c = x.later in
-      let d = y.later in
-      record {
-        after = omega arith;
-        within = y.within;
-        later = omega arith;
-        sums = λ base e. y.sums base (x.sums base e);
-        told = λ h t wanted base lo c e f l p.
-            y.told h t wanted base lo c (x.sums base e) (λ z. omega (arith, f (omega arith))) l (x.told h t wanted base lo c e f l p);
-      }
+  abbrev vs : List ℕ
+  vs = l.intervals.now
+
+  tells_entry : (base i at t wanted : ℕ) (h : ℕ → ℕ) (g r : Gates) → i < n → base + sum_to vs i ≤ at → (i + 1 < n → at < base + sum_to vs i + get_or vs i 0)
+      → at < limit → t ≤ at → Cycles h l base at limit → Narrows (get_or os i 0) at ends g r → Tells h t at wanted ends g
+      → Tells h t (reach n (i + 1) (base + sum_to vs i + get_or vs i 0) limit) wanted ends r
+  tells_entry base i at t wanted h g r a b c d e s w p = go (ltb (i + 1) n) refl
+    where
+      go : (x : Bool) → ltb (i + 1) n ≡ x → Tells h t (cond x (min (base + sum_to vs i + get_or vs i 0) limit) limit) wanted ends r
+      go true z =
+          let y = c (ltb-true (i + 1) n z) in
+          tells_more h t wanted ends at (min (base + sum_to vs i + get_or vs i 0) limit) (get_or os i 0) g r e (omega arith)
+          (λ v j k. s v j (omega arith) ∙ entry-shows os vs n base i v a (omega arith) (λ _. omega arith)) w p
+      go false z =
+          let y = ltb-false (i + 1) n z in
+          tells_more h t wanted ends at limit (get_or os i 0) g r e d
+          (λ v j k. s v j k ∙ entry-shows os vs n base i v a (omega arith) (λ q. absurd (omega arith))) w p
+
+  pub goes-start : (place from : ℕ) (g : Gates) → place ≤ n → Goes l place from limit ends g place from g
+  goes-start place from g a = record { after = omega arith; within = a; later = omega arith; sums = λ b e. e; told = λ h t wanted base lo c e a b p. p }
 
   -- the entry at i begins, and the octet of it is shown
-  pub goes-more : (place from i u : ℕ) (g r s : Gates) → Goes os vs n place from limit ends g i u r → i < n → u < limit → 0 < get_or vs i 0
-      → Narrows (get_or os i 0) u ends r s → (x : ℕ) → x ≡ get_or vs i 0 → Goes os vs n place from limit ends g (i + 1) (u + x) s
+  pub goes-more : (place from i u : ℕ) (g r s : Gates) → Goes l place from limit ends g i u r → i < n → u < limit → 0 < get_or vs i 0
+      → Narrows (get_or os i 0) u ends r s → (x : ℕ) → x ≡ get_or vs i 0 → Goes l place from limit ends g (i + 1) (u + x) s
   goes-more place from i u g r s w a b z y x q =
-      let l = w.later in
+      let j = w.later in
       let m = w.after in
       record {
         after = omega arith;
@@ -206,7 +197,7 @@ module _ (os vs : List ℕ) (n limit : ℕ) (ends : List ℕ) where
             let o : base + sum_to vs i ≡ u = w.sums base e in
             let k : lo ≤ from = f (omega arith) in
             subst (λ v. Tells h t (reach n (i + 1) v limit) wanted ends s) (omega arith)
-            (tells_entry os vs n base i u limit t wanted ends h r s a (omega arith) (λ _. omega arith) b (omega arith) (λ v j. c v (omega arith)) y
+            (tells_entry base i u t wanted h r s a (omega arith) (λ _. omega arith) b (omega arith) (λ v j. c v (omega arith)) y
             (subst (λ v. Tells h t v wanted ends r) here (w.told h t wanted base lo c e f d p)));
       }
     where
@@ -214,46 +205,23 @@ module _ (os vs : List ℕ) (n limit : ℕ) (ends : List ℕ) where
       here = ap (λ x. cond x (min u limit) limit) (lt-ltb i n a) ∙ omega arith
 
   -- it has come to the limit, or to the end of the list, or no class is left
-  module _ (place from i u : ℕ) (g r : Gates) (w : Goes os vs n place from limit ends g i u r) where
-    pub sweeps_limit : limit ≤ u → Sweeps os vs n place from limit ends g r
+  module _ (place from i u : ℕ) (g r : Gates) (w : Goes l place from limit ends g i u r) where
+    pub sweeps_limit : limit ≤ u → Sweeps l place from limit ends g r
     unfolding Sweeps
-    sweeps_limit l h t wanted base lo c e f d p = subst (λ v. Tells h t v wanted ends r) (go (ltb i n)) (w.told h t wanted base lo c e f d p)
+    sweeps_limit a h t wanted base lo c e f d p = subst (λ v. Tells h t v wanted ends r) (go (ltb i n)) (w.told h t wanted base lo c e f d p)
       where
         go : (x : Bool) → cond x (min u limit) limit ≡ limit
         go true = omega arith
         go false = refl
 
-    pub sweeps_end : n ≤ i → Sweeps os vs n place from limit ends g r
+    pub sweeps_end : n ≤ i → Sweeps l place from limit ends g r
     unfolding Sweeps
-    sweeps_end l h t wanted base lo c e f d p =
-        subst (λ v. Tells h t v wanted ends r) (ap (λ x. cond x (min u limit) limit) (le-ltb i n l)) (w.told h t wanted base lo c e f d p)
+    sweeps_end a h t wanted base lo c e f d p =
+        subst (λ v. Tells h t v wanted ends r) (ap (λ x. cond x (min u limit) limit) (le-ltb i n a)) (w.told h t wanted base lo c e f d p)
 
-    pub sweeps_none : r.left ≡ 0 → Sweeps os vs n place from limit ends g r
+    pub sweeps_none : r.left ≡ 0 → Sweeps l place from limit ends g r
     unfolding Sweeps
     sweeps_none z h t wanted base lo c e f d p = tells_all h t wanted ends (reach n i u limit) limit r z (w.told h t wanted base lo c e f d p)
-
--- over entries that close no class of an octet
-
-module _ (os vs : List ℕ) (n place from limit left : ℕ) where
-  pub skips_start : place ≤ n → Skips os vs n place from limit left (record { place = place; at = from })
-  unfolding Skips
-  skips_start l ends g e = goes-start os vs n limit ends place from g l
-
-  pub skips_more : (i u : ℕ) → Skips os vs n place from limit left (record { place = i; at = u }) → i < n → u < limit → 0 < get_or vs i 0
-      → bit_and left (get_or os i 0) ≡ left → (x : ℕ) → x ≡ get_or vs i 0 → Skips os vs n place from limit left (record { place = i + 1; at = u + x })
-  unfolding Skips
-  skips_more i u s a b z c x q ends g e =
-      goes-more os vs n limit ends place from i u g g g (s ends g e) a b z
-      (narrows_none (get_or os i 0) u ends g (ap (λ m. bit_and m (get_or os i 0)) e ∙ c ∙ sym e)) x q
-
-  pub skips_after : (s : Spot) → Skips os vs n place from limit left s → place ≤ s.place
-  unfolding Skips
-  skips_after s k = (k [] (record { left = left; ended = 0 }) refl).after
-
-pub goes_skips : (os vs : List ℕ) (n limit : ℕ) (ends : List ℕ) (place from i u : ℕ) (g r : Gates) → Goes os vs n place from limit ends g i u r → (s : Spot)
-    → Skips os vs n i u limit r.left s → Goes os vs n place from limit ends g s.place s.at r
-unfolding Skips
-goes_skips os vs n limit ends place from i u g r w s k = goes_on_lem os vs n limit ends place from i u s.place s.at g r r w (k ends r refl)
 
 -- a stretch: what is left of the cycle that runs, and the beginning of the next one
 
@@ -263,20 +231,31 @@ unfolding place_at
 place-holds vs n o h p e =
     subst⁻¹ (λ (q : Place). Holds vs n o q.number × (q.start ≡ sum_to vs q.number)) e (number-holds [] vs n o h, refl)
 
-module _ (os vs : List ℕ) (s : Stretch) (w : Walkable vs s) (short : s.edge ≤ s.from + s.period) (ends : List ℕ) (limit : ℕ)
-    (is : limit ≡ min (s.base + s.period) s.edge) (p : Place) (found : p ≡ place_at vs s.len (s.from - s.base)) (x : ℕ)
-    (long : x ≡ get_or vs p.number 0) (g b d : Gates) (first : Narrows (get_or os p.number 0) s.from ends g b)
-    (rest : Sweeps os vs s.len (p.number + 1) (s.base + p.start + x) limit ends b d) where
-  module _ (f : Config) (plays : Plays f os vs s.len s.period) (runs : Runs f s) (h : ℕ → ℕ) (t wanted : ℕ)
+-- the entry that runs at a stretch's first instant is one of the list's, and has begun
+pub stands : (s : Stretch) → Walkable s.list.intervals.now s → (p : Place) → p ≡ place_at s.list.intervals.now s.list.len (s.from - s.base)
+    → (p.number < s.list.len) × (p.number < 128) × (s.base + p.start ≤ 9000000001000000000)
+stands s w p e =
+    let k = place-holds s.list.intervals.now s.list.len (s.from - s.base) w.some p e in
+    let a = w.begun in
+    let b = w.before in
+    let c = w.near in
+    let d = w.few in
+    (k.0.one, omega (arith, k.0.one), omega (arith, k.0.from, k.1))
+
+module _ (s : Stretch) (w : Walkable s.list.intervals.now s) (short : s.edge ≤ s.from + s.period) (ends : List ℕ) (limit : ℕ)
+    (is : limit ≡ min (s.base + s.period) s.edge) (p : Place) (found : p ≡ place_at s.list.intervals.now s.list.len (s.from - s.base)) (x : ℕ)
+    (long : x ≡ get_or s.list.intervals.now p.number 0) (g b d : Gates) (first : Narrows (get_or s.list.octets.now p.number 0) s.from ends g b)
+    (rest : Sweeps s.list (p.number + 1) (s.base + p.start + x) limit ends b d) where
+  module _ (f : Config) (plays : Plays f s.list.octets.now s.list.intervals.now s.list.len s.period) (runs : Runs f s) (h : ℕ → ℕ) (t wanted : ℕ)
       (shows : (v : ℕ) → s.from ≤ v → v < s.edge → h v ≡ plain_octet f v) (later : t ≤ s.from) (told : Tells h t s.from wanted ends g) where
-    cycle-shows : (start v : ℕ) → plain_start f v ≡ start → s.from ≤ v → v < s.edge → h v ≡ octet_at (entries_from os vs 0 s.len) (v - start)
+    cycle-shows : (start v : ℕ) → plain_start f v ≡ start → s.from ≤ v → v < s.edge → h v ≡ octet_at (entries_from s.list.octets.now s.list.intervals.now 0 s.list.len) (v - start)
     unfolding plain_octet
     cycle-shows start v e a c = shows v a c ∙ (λ i. octet_at (plays.list i) (v - e i))
 
     first-cycle : Tells h t limit wanted ends d
     unfolding Sweeps
     first-cycle =
-        let k = place-holds vs s.len (s.from - s.base) w.some p found in
+        let k = place-holds s.list.intervals.now s.list.len (s.from - s.base) w.some p found in
         let l = w.begun in
         let y = w.ahead in
         let z = w.before in
@@ -284,14 +263,14 @@ module _ (os vs : List ℕ) (s : Stretch) (w : Walkable vs s) (short : s.edge �
         let e = k.1 in
         let r = runs.base in
         let q = plays.cycle in
-        let c : Cycles h os vs s.len s.base s.from limit =
+        let c : Cycles h s.list s.base s.from limit =
         (λ v i j. cycle-shows s.base v (same_start f plays.valid s.from v runs.started (omega arith) (omega arith) ∙ r) i (omega arith)) in
-        rest h t wanted s.base s.from c (omega (arith, sum_more vs p.number)) (λ l. omega (arith, k.0.upto l)) later
-        (subst (λ v. Tells h t (reach s.len (p.number + 1) v limit) wanted ends b) (omega arith)
-        (tells_entry os vs s.len s.base p.number s.from limit t wanted ends h g b k.0.one (omega arith) (λ l. omega (arith, k.0.upto l)) (omega arith) later c
+        rest h t wanted s.base s.from c (omega (arith, sum_more s.list.intervals.now p.number)) (λ l. omega (arith, k.0.upto l)) later
+        (subst (λ v. Tells h t (reach s.list.len (p.number + 1) v limit) wanted ends b) (omega arith)
+        (tells_entry s.list limit ends s.base p.number s.from t wanted h g b k.0.one (omega arith) (λ l. omega (arith, k.0.upto l)) (omega arith) later c
         first told))
 
-    second_cycle : s.base + s.period < s.edge → (r : Gates) → Sweeps os vs s.len 0 (s.base + s.period) s.edge ends d r → Tells h t s.edge wanted ends r
+    second_cycle : s.base + s.period < s.edge → (r : Gates) → Sweeps s.list 0 (s.base + s.period) s.edge ends d r → Tells h t s.edge wanted ends r
     unfolding Sweeps sum_to
     second_cycle l r k =
         let next : ℕ = s.base + s.period in
@@ -300,51 +279,48 @@ module _ (os vs : List ℕ) (s : Stretch) (w : Walkable vs s) (short : s.edge �
         let a = runs.started in
         let e = runs.base in
         let q = plays.cycle in
-        let n : plain_start f next ≡ next = ap (λ v. plain_start f v) (omega arith) ∙ next_own f plays.valid s.from ∙ omega arith in
-        let c : Cycles h os vs s.len next next s.edge =
-        (λ v i j. cycle-shows next v (same_start f plays.valid next v (omega arith) (omega arith) (omega arith) ∙ n) (omega arith) j) in
+        let z : plain_start f next ≡ next = ap (λ v. plain_start f v) (omega arith) ∙ next_own f plays.valid s.from ∙ omega arith in
+        let c : Cycles h s.list next next s.edge =
+        (λ v i j. cycle-shows next v (same_start f plays.valid next v (omega arith) (omega arith) (omega arith) ∙ z) (omega arith) j) in
         k h t wanted next next c (omega arith) (λ _. omega arith) (omega arith)
-        (subst (λ v. Tells h t v wanted ends d) (omega arith ∙ sym (ap (λ o. cond o (min next s.edge) s.edge) (lt-ltb 0 s.len (omega (arith, w.some))))) first-cycle)
+        (subst (λ v. Tells h t v wanted ends d) (omega arith ∙ sym (ap (λ o. cond o (min next s.edge) s.edge) (lt-ltb 0 s.list.len (omega (arith, w.some))))) first-cycle)
 
-  pub list-first : s.edge ≤ s.base + s.period → SweepsList os vs s ends g d
+  pub list-first : s.edge ≤ s.base + s.period → SweepsList s ends g d
   unfolding SweepsList
   list-first l f y x h t wanted j k z = subst (λ v. Tells h t v wanted ends d) (omega arith) (first-cycle f y x h t wanted j k z)
 
-  pub list_second : s.base + s.period < s.edge → (r : Gates) → Sweeps os vs s.len 0 (s.base + s.period) s.edge ends d r → SweepsList os vs s ends g r
+  pub list_second : s.base + s.period < s.edge → (r : Gates) → Sweeps s.list 0 (s.base + s.period) s.edge ends d r → SweepsList s ends g r
   unfolding SweepsList
   list_second l r k f y x h t wanted j m z = second_cycle f y x h t wanted j m z l r k
 
 -- a span
 
 module _ (g : Timetable) (t edge : ℕ) (r : Span) (s : Spans g.times t edge r) (ends : List ℕ) (b d : Gates) where
-  pub span_flat : r.flat ≡ true → Narrows g.times.standing t ends b d → SweepsSpan g t edge ends b d
+  pub span_flat : r.list ≡ None → Narrows g.times.standing t ends b d → SweepsSpan g t edge ends b d
   unfolding SweepsSpan
   span_flat e n u wanted l p =
       let i = s.upto in
       tells_more (shown (decode g)) u wanted ends t edge g.times.standing b d l s.after
       (λ v x y. table_flat g t r s.governs e v x (omega arith)) n p
 
-  module _ (k : Readable g) (e : r.flat ≡ false) (new : Bool) (q : r.new ≡ new) (stop : ℕ) (is : stop ≡ min edge (t + r.period)) where
+  module _ (k : Readable g) (w : Which) (q : r.list ≡ Some w) (l : Entries) (same : lent l ≡ list_in g w) (stop : ℕ) (is : stop ≡ min edge (t + r.period)) where
     abbrev pub stretch_of : Stretch
-    stretch_of = record { len = (list_in g new).len; period = r.period; base = r.start; from = t; edge = stop }
+    stretch_of = record { list = l; period = r.period; base = r.start; from = t; edge = stop }
 
-    ruled : Rules (shown (decode g)) (list_of (list_in g new)) r.period r.start t r.edge
-    ruled = table_ruled g t r s.governs e new q
+    ruled : Rules (shown (decode g)) (list_of (lent l)) r.period r.start t r.edge
+    ruled = subst⁻¹ (λ m. Rules (shown (decode g)) (list_of m) r.period r.start t r.edge) same (table_ruled g t r s.governs w q)
 
-    there : is_there g.times new ≡ true
-    there = subst (λ x. is_there g.times x ≡ true) q (s.governs.there e)
-
-    pub walkable : Walkable (list_in g new).intervals stretch_of × (stop ≤ t + r.period)
+    pub walkable : Walkable l.intervals.now stretch_of × (stop ≤ t + r.period)
     walkable =
-        let l = k.lists new there in
-        let i = rules_inside (shown (decode g)) (list_of (list_in g new)) r.period r.start t r.edge ruled in
+        let u = subst⁻¹ (λ (m : GateList). ((1 ≤ m.len) × (m.len ≤ 128)) × Used m.intervals m.len) same (k.lists w (s.governs.there w q)) in
+        let i = rules_inside (shown (decode g)) (list_of (lent l)) r.period r.start t r.edge ruled in
         let a = s.after in
         let n = s.near in
-        let h = s.governs.short e in (
+        let h = s.governs.short w q in (
           record {
-            some = l.0.0;
-            few = l.0.1;
-            used = l.1;
+            some = u.0.0;
+            few = u.0.1;
+            used = u.1;
             begun = i.0;
             ahead = i.1;
             before = omega (arith, i.0, i.1);
@@ -354,7 +330,7 @@ module _ (g : Timetable) (t edge : ℕ) (r : Span) (s : Spans g.times t edge r) 
           omega arith,
         )
 
-    pub span_ruled : SweepsList (list_in g new).octets (list_in g new).intervals stretch_of ends b d → SweepsSpan g t edge ends b d
+    pub span_ruled : SweepsList stretch_of ends b d → SweepsSpan g t edge ends b d
     unfolding SweepsSpan SweepsList ruled
     span_ruled c u wanted l p =
         let z = ruled in

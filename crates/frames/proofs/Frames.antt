@@ -1,13 +1,10 @@
 -- The frame's record: a well-formed one is the encoding of its frame, which is sound (`frame-fine`); the encoding of a sound frame is well formed
 -- (`frame_formed_lem`) and decodes to it (`frame_decoded`).
 -- Assumes nothing.
-use mathlib.Core.Path.{◌≡◌, refl, sym}
-use mathlib.Core.Bool.{Bool, true, false, ◌&&◌}
-use mathlib.Core.Option.{Option, none, some}
-use Prim.Native.Nat.{ℕ, ◌-◌}
-use native.Mathlib.Omega.{arith}
-use lib.Dec.{leb, ltb, eqb}
-use borrow.Author.Tests.{leb-true, le-leb, ltb-true, lt-ltb, eqb-true, eqb-false}
+use Rattle.std.proofs.Common.{◌≡◌, ℕ, ◌-◌, Bool, true, false, ◌&&◌, leb, ltb, eqb, refl, sym, ap, ◌∙◌, leb-true, le-leb, lt-ltb, eqb-true, eq-eqb, ne_eqb, arith}
+use Rattle.std.proofs.Math.Option.{Option, none, some}
+use Rattle.std.proofs.Math.Bool.{or-false}
+use Rattle.std.proofs.lemmas.Bool.{ltb-true, lt-leb, eqb-false}
 use Rattle.rule.specs.Limits.{longest_span}
 use Rattle.rule.specs.Port as model
 use Rattle.rule.proofs.Orders.{both}
@@ -78,3 +75,37 @@ frame_formed_lem t none k = refl
 frame_formed_lem t (some f) k =
     rw (mark_formed f.counted)
     (simp (le-leb f.class 7 k.class, le-leb f.start t k.begun, lt-ltb t f.end k.before, lt-ltb f.start f.last k.some-octet, lt-ltb f.last f.end k.some_gap, le-leb (f.end - f.start) longest_span k.short))
+
+-- as the code judges it: a frame that is there by its numbers, an absent one as no frame
+
+pub formed-there : (f : Frame) (t : ℕ) → f.present ≡ 1 → leb f.counted 1 && frame_ok f t ≡ frame_formed f t
+unfolding frame_formed
+formed-there f t e = sym (rw (eq-eqb f.present 1 e, or-false (frame_ok f t), le-leb f.present 1 (omega arith)))
+
+-- the mark of an absent frame is 0, and so is that of its overrun: the tests of both say no more
+pub formed-absent : (f : Frame) (t : ℕ) → (f.present ≡ 1 → ⊥)
+    → eqb f.present 0 && (eqb f.class 0 && (eqb f.counted 0 && (eqb f.start 0 && (eqb f.last 0 && eqb f.end 0)))) ≡ frame_formed f t
+unfolding frame_formed frame_none
+formed-absent f t n =
+    go (eqb f.present 0) (eqb f.class 0) (eqb f.counted 0) (eqb f.start 0) (eqb f.last 0) (eqb f.end 0) (leb f.counted 1)
+    (λ e. le-leb f.counted 1 (omega (arith, eqb-true f.counted 0 e)))
+    ∙ sym (rw (ne_eqb f.present 1 n, mark (eqb f.present 0) refl))
+  where
+    mark : (b : Bool) → eqb f.present 0 ≡ b → leb f.present 1 ≡ b
+    mark true e = le-leb f.present 1 (omega (arith, eqb-true f.present 0 e))
+    mark false e = lt-leb f.present 1 (omega (arith, n, eqb-false f.present 0 e))
+
+    none : (m s l e : Bool) → false ≡ m && (s && (l && (e && false)))
+    none false s l e = refl
+    none true false l e = refl
+    none true true false e = refl
+    none true true true false = refl
+    none true true true true = refl
+
+    go : (p k c s l e m : Bool) → (c ≡ true → m ≡ true) → p && (k && (c && (s && (l && e)))) ≡ (p && m) && (k && (s && (l && (e && c))))
+    go false k c s l e m h = refl
+    go true false c s l e true h = refl
+    go true false c s l e false h = refl
+    go true true false s l e m h = none m s l e
+    go true true true s l true m h = ap (λ m. m && (s && (l && true))) (sym (h refl))
+    go true true true s l false m h = ap (λ m. m && (s && (l && false))) (sym (h refl))

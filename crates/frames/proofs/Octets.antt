@@ -1,14 +1,10 @@
 -- The bits of an octet of classes. In order: the bits of `&`, `|` and `^`; the octet of one class; an octet formed bit by bit.
 -- Assumes nothing.
-use mathlib.Core.Path.{◌≡◌, refl, ap, ap₂, sym, ◌∙◌}
-use mathlib.Core.Bool.{Bool, true, false, cond, not, ◌&&◌, ◌||◌}
-use Prim.Native.Nat.{ℕ, zero, suc, ◌+◌, ◌-◌, ◌*◌, ◌/◌, ◌%◌, ◌^◌, ◌≤◌, ◌<◌}
-use native.Mathlib.Nat.{pow-suc, div-eq_of_lt}
-use native.Mathlib.Omega.{arith}
-use lib.Dec.{eqb, ltb, lit<}
-use lib.Bits.{bit_and, bit_or, bit_xor, and_shr, or_shr, xor_shr, and_mod, or_mod, xor_mod}
-use lib.Pow.{shl_exact, shl-shr, pow-lt, pow-add}
-use borrow.Author.Tests.{lt-ltb, le-ltb, ltb-true, ltb-false, eqb-true, eqb-false, eq-eqb, ne_eqb}
+use Rattle.std.proofs.Common.{◌≡◌, refl, ap, ap₂, sym, ◌∙◌, Bool, true, false, cond, not, ◌&&◌, ◌||◌, ℕ, zero, suc, ◌+◌, ◌-◌, ◌*◌, ◌/◌, ◌%◌, ◌^◌, ◌≤◌, ◌<◌, pow-suc, arith, eqb, ltb, lit<, bit_and, bit_or, bit_xor, shl_exact, pow-add, lt-ltb, le-ltb, ltb-true, ltb-false, eqb-true, eq-eqb, ne_eqb}
+use native.Mathlib.Nat.{div-eq_of_lt}
+use lib.Bits.{and_shr, or_shr, xor_shr, and_mod, or_mod, xor_mod}
+use lib.Pow.{shl-shr, pow-lt}
+use Rattle.std.proofs.lemmas.Bool.{eqb-false}
 use Rattle.rule.specs.Gates.{is_open}
 use Rattle.frames.specs.Choosing.{Sets, Forms}
 

@@ -1,61 +1,47 @@
--- `decide` promises `Decides` and `duration` promises `Lasts`, which leave one outcome; `frame_formed` and `no_frame` promise an equation. Document 01's number,
+-- `decide` promises `Decides` and `duration` promises `Lasts`, which leave one outcome; `Frame::formed`, `Frame::none` and `Frame::sending` promise an equation. Document 01's number,
 -- with the values of an accepted call, tells an answer from every other (`choice_told`, `duration-told`).
 -- Assumes nothing.
-use mathlib.Core.Path.{◌≡◌, refl, ap, sym, ◌∙◌}
-use mathlib.Core.List.{List, ◌∷◌}
-use mathlib.Core.Option.{none, some}
-use Prim.Native.Nat.{ℕ}
-use native.Mathlib.Omega.{arith}
+use Rattle.std.proofs.Common.{◌≡◌, refl, ap, sym, ◌∙◌, List, ◌∷◌, ℕ, arith}
 use Rattle.rule.specs.declared.Refusal.{Refusal}
 use Rattle.rule.specs.Refusals.{number_of}
-use Rattle.rule.proofs.Refusals.{number_same}
+use Rattle.rule.proofs.Refusals.{refusal_told, none_some}
 use Rattle.timetable.specs.declared.Timetable.{Timetable}
 use Rattle.frames.specs.declared.Frame.{Frame}
-use Rattle.frames.specs.declared.Choice.{Choice}
-use Rattle.frames.specs.declared.Choice.TheVariants as choice
 use Rattle.frames.specs.declared.Decided.{Decided}
 use Rattle.frames.specs.declared.FrameTime.{FrameTime}
-use Rattle.frames.specs.declared.FrameTime.TheVariants as time
-use Rattle.frames.specs.Decision.{choice_number, choice_values}
+use Rattle.std.specs.Prelude.{Some, None, Result, Ok, Err}
+use Rattle.frames.specs.Decision.{Choice, choice_number, choice_values}
 use Rattle.frames.specs.Deciding.{Decides}
 use Rattle.frames.specs.Lengths.{Lasts, duration_number, duration_values}
 
 pub decides_unique : (heads : List ℕ) (speed : ℕ) (g : Timetable) (f : Frame) (r s : Decided) → Decides heads speed g f r → Decides heads speed g f s → r ≡ s
 decides_unique heads speed g f r s k l i = record { answer = (k.answer ∙ sym l.answer) i; frame = (k.frame ∙ sym l.frame) i }
 
-refusal_told : (r s : Refusal) → some (number_of r) ≡ some (number_of s) → r ≡ s
-refusal_told r s e = number_same r s (cc)
-
-none_some : (n : ℕ) → none ≡ some n → ⊥
-none_some n e = let z : ◌≡◌ {A = ℕ} 0 1 = cc in omega arith
-
 no_frame_lem : (l m : List ℕ) → ◌≡◌ {A = List ℕ} (0 ∷ l) (1 ∷ m) → ⊥
 no_frame_lem l m e = let z : ◌≡◌ {A = ℕ} 0 1 = cc in omega arith
 
 pub choice_told : (r s : Choice) → choice_number r ≡ choice_number s → choice_values r ≡ choice_values s → r ≡ s
-choice_told (choice.Frame k a b c) (choice.Frame j d e f) p q =
-    let x : k ≡ j = cc in
-    let y : a ≡ d = cc in
-    let z : b ≡ e = cc in
-    let w : c ≡ f = cc in
-    λ i. choice.Frame (x i) (y i) (z i) (w i)
-choice_told (choice.Frame k a b c) choice.Nothing p q = absurd (no_frame_lem _ _ (sym q))
-choice_told (choice.Frame k a b c) (choice.Refused r) p q = absurd (none_some (number_of r) p)
-choice_told choice.Nothing (choice.Frame j d e f) p q = absurd (no_frame_lem _ _ q)
-choice_told choice.Nothing choice.Nothing p q = refl
-choice_told choice.Nothing (choice.Refused r) p q = absurd (none_some (number_of r) p)
-choice_told (choice.Refused r) (choice.Frame j d e f) p q = absurd (none_some (number_of r) (sym p))
-choice_told (choice.Refused r) choice.Nothing p q = absurd (none_some (number_of r) (sym p))
-choice_told (choice.Refused r) (choice.Refused s) p q = ap choice.Refused (refusal_told r s p)
+choice_told (Ok (Some f)) (Ok (Some g)) p q =
+    let x : f.class ≡ g.class = cc in
+    let y : f.start ≡ g.start = cc in
+    let z : f.last ≡ g.last = cc in
+    let w : f.end ≡ g.end = cc in
+    λ i. Ok (Some (record { class = x i; start = y i; last = z i; end = w i }))
+choice_told (Ok (Some f)) (Ok None) p q = absurd (no_frame_lem _ _ (sym q))
+choice_told (Ok None) (Ok (Some g)) p q = absurd (no_frame_lem _ _ q)
+choice_told (Ok None) (Ok None) p q = refl
+choice_told (Ok f) (Err r) p q = absurd (none_some (number_of r) p)
+choice_told (Err r) (Ok f) p q = absurd (none_some (number_of r) (sym p))
+choice_told (Err r) (Err s) p q = ap Err (refusal_told r s p)
 
-pub lasts_unique : (len speed : ℕ) (r s : FrameTime) → Lasts len speed r → Lasts len speed s → r ≡ s
+pub lasts_unique : (len speed : ℕ) (r s : Result FrameTime Refusal) → Lasts len speed r → Lasts len speed s → r ≡ s
 lasts_unique len speed r s p q = p ∙ sym q
 
-pub duration-told : (r s : FrameTime) → duration_number r ≡ duration_number s → duration_values r ≡ duration_values s → r ≡ s
-duration-told (time.Takes a b) (time.Takes c d) p q =
-    let x : a ≡ c = cc in
-    let y : b ≡ d = cc in
-    λ i. time.Takes (x i) (y i)
-duration-told (time.Takes a b) (time.Refused r) p q = absurd (none_some (number_of r) p)
-duration-told (time.Refused r) (time.Takes a b) p q = absurd (none_some (number_of r) (sym p))
-duration-told (time.Refused r) (time.Refused s) p q = ap time.Refused (refusal_told r s p)
+pub duration-told : (r s : Result FrameTime Refusal) → duration_number r ≡ duration_number s → duration_values r ≡ duration_values s → r ≡ s
+duration-told (Ok a) (Ok b) p q =
+    let x : a.last ≡ b.last = cc in
+    let y : a.next ≡ b.next = cc in
+    λ i. Ok (record { last = x i; next = y i })
+duration-told (Ok a) (Err r) p q = absurd (none_some (number_of r) p)
+duration-told (Err r) (Ok a) p q = absurd (none_some (number_of r) (sym p))
+duration-told (Err r) (Err s) p q = ap Err (refusal_told r s p)

@@ -4,7 +4,8 @@ use Rattle.std.specs.Prelude.{◌≡◌, cond, not, ◌&&◌, List, ◌∷◌, �
 use Rattle.std.proofs.Math.Option.{Option, none}
 use Rattle.rule.specs.declared.Refusal.{Refusal}
 use Rattle.rule.specs.declared.Refusal.TheVariants.{MalformedPort}
-use Rattle.rule.specs.Refusals.{first_of, accepted}
+use Rattle.rule.specs.Refusals.{first_of, accepted, Answer}
+use Rattle.rule.specs.Answers.{answer_of}
 use Rattle.rule.specs.Orders.{transmit_order}
 use Rattle.rule.proofs.Soundness.{SoundFrame}
 use Rattle.timetable.specs.declared.Timetable.{Timetable}
@@ -14,7 +15,7 @@ use Rattle.timetable.specs.Checks.{Fine}
 use Rattle.frames.specs.declared.Frame.{Frame}
 use Rattle.frames.specs.declared.Decided.{Decided}
 use Rattle.frames.specs.Frame.{decode_frame, encode_frame, frame_formed}
-use Rattle.frames.specs.Choosing.{begun}
+use Rattle.frames.specs.Choosing.{Offered, begun}
 use Rattle.frames.specs.Decision.{choice_of}
 
 -- a record that is the encoding of a sound frame
@@ -26,6 +27,12 @@ pub record FineFrame (f : Frame) (t : ℕ) : Type 0 where
 unfoldable pub send_declines : List ℕ → ℕ → Timetable → Frame → Option Refusal
 send_declines heads speed g f =
     first_of ((not (timetable_formed g && frame_formed f g.times.clock), MalformedPort) ∷ transmit_order heads speed (decode_frame f))
+
+-- the answer of the order, and what is known where nothing is declined
+pub record Declines (heads : List ℕ) (speed : ℕ) (g : Timetable) (f : Frame) (r : Answer) : Type 0 where
+  pub is : r ≡ answer_of (send_declines heads speed g f)
+  pub fine : send_declines heads speed g f ≡ none → Fine g × FineFrame f g.times.clock
+  pub offered : send_declines heads speed g f ≡ none → Offered heads speed
 
 pub record Decides (heads : List ℕ) (speed : ℕ) (g : Timetable) (f : Frame) (r : Decided) : Type 0 where
   pub answer : r.answer ≡ choice_of (send_declines heads speed g f) (begun heads speed (decode g))

@@ -11,8 +11,8 @@ ghost use Rattle.frames.specs.Choosing.{Sets, Asks, Offered, Near, Begins, begun
 
 use crate::Frame;
 use crate::ahead::look_ahead;
-use crate::sent::no_frame;
-use timetable::{Times, most};
+use crate::lengths::octet_time;
+use timetable::Timetable;
 
 // What a transmit asks for: the classes that have a frame, when the last octet of the last of their frames is out, the time of the gap between frames, and
 // when the last octet would be out of the frame of each of the eight classes.
@@ -25,18 +25,12 @@ struct Ends {
 }
 
 // The octet with one class's bit set, if it is to be.
+#[tactic(auto, using(crate::proofs::Octets::sets_bit, crate::proofs::Octets::sets_none))]
 pub fn with_bit(octet: u8, class: u8, bit: bool) -> u8
     requires { class < 8 }
     ensures { Sets class bit octet result }
 {
     if bit { octet | (1 << class) } else { octet }
-}
-
-// The one or the other.
-fn pick(which: bool, a: u64, b: u64) -> u64
-    ensures { result ≡ cond which a b }
-{
-    if which { a } else { b }
 }
 
 // What is asked for at t. A frame takes 8,000 / speed ns for each octet of it and for 8 more, the gap takes 12 times that.
@@ -45,19 +39,18 @@ fn asked(heads: [u64; 8], speed: u64, t: u64) -> Ends
     requires t_le_largest_instant { t ≤ largest_instant }
     ensures { Asks heads speed t 8 result.wanted result.last result.each × (result.gap ≡ 96_000 / speed) }
 {
-    let octet_time = 8_000 / speed;
+    let octet_time = octet_time(speed);
     let mut wanted: u8 = 0;
     let mut last = t;
     let mut each = [0u64; 8];
-    for k in 0..8 {
-        let len = heads[k];
+    for (k, len) in heads.iter().enumerate() {
         let end = t + (len + 8) * octet_time;
         each[k] = end;
-        let class = k as u8;
-        let there = len != 0;
-        wanted = with_bit(wanted, class, there);
-        let until = pick(there, end, t);
-        last = most(last, until);
+        let there = *len != 0;
+        wanted = with_bit(wanted, k as u8, there);
+        if there {
+            last = last.max(end);
+        }
     }
     let gap = 12 * octet_time;
     Ends {
@@ -69,6 +62,7 @@ fn asked(heads: [u64; 8], speed: u64, t: u64) -> Ends
 }
 
 // The highest class of an octet that has one: 7 less its leading zeros.
+#[tactic(auto, using(crate::proofs::Classes::top_is))]
 fn top(octet: u8) -> u8
     requires { 0 < octet }
     ensures { (result < 8) × (highest (is_open octet) 8 ≡ some result) }
@@ -77,12 +71,13 @@ fn top(octet: u8) -> u8
 }
 
 // The frame of the highest of an octet's classes, begun at t; none if it has none.
+#[tactic(auto, using(crate::proofs::Classes::begins_top))]
 fn frame_for(octet: u8, ends: [u64; 8], gap: u64, t: u64) -> Frame
     requires { Near ends gap }
     ensures { Begins octet ends gap t result }
 {
     if octet == 0 {
-        return no_frame();
+        return Frame::none();
     }
     let class = top(octet);
     let k = class as usize;
@@ -99,25 +94,13 @@ fn frame_for(octet: u8, ends: [u64; 8], gap: u64, t: u64) -> Frame
 }
 
 // The frame that is chosen now, or none. The look ahead counts on what is shown if no further act comes.
-pub fn chosen<'a>(
-    x: Times,
-    os: &'a [u8; 128],
-    vs: &'a [u32; 128],
-    ws: &'a [u8; 128],
-    zs: &'a [u32; 128],
-    heads: [u64; 8],
-    speed: u64,
-) -> Frame
-    requires fine { Fine (record { times = x; octets = os.now; intervals = vs.now; newoctets = ws.now; newintervals = zs.now }) }
+pub fn chosen(g: &Timetable, heads: [u64; 8], speed: u64) -> Frame
+    requires fine { Fine g.now }
     requires offered { Offered heads speed }
-    ensures { result ≡ encode_frame (begun heads speed (decode (record { times = x; octets = os.now; intervals = vs.now; newoctets = ws.now; newintervals = zs.now }))) }
+    ensures { result ≡ encode_frame (begun heads speed (decode g.now)) }
 {
-    let t = x.clock;
+    let t = g.times.clock;
     let a = asked(heads, speed, t);
-    let wanted = a.wanted;
-    let last = a.last;
-    let gap = a.gap;
-    let ends = a.each;
-    let g = look_ahead(x, os, vs, ws, zs, wanted, &ends, last);
-    frame_for((g.left | g.ended) & wanted, ends, gap, t)
+    let known = look_ahead(g, a.wanted, &a.each, a.last);
+    frame_for((known.left | known.ended) & a.wanted, a.each, a.gap, t)
 }

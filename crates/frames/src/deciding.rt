@@ -1,19 +1,17 @@
 // Transmit's decision: refused for a reason, or the frame of the highest class that qualifies begins now, if there is one.
 ghost use Rattle.std.specs.Prelude.{◌≡◌, not};
-ghost use Rattle.std.proofs.Math.Option.{none};
-ghost use Rattle.rule.specs.Orders.{any, head_offered};
-ghost use Rattle.frames.specs.Frame.{decode_frame};
-ghost use Rattle.frames.specs.Decision.{choice_of};
-ghost use Rattle.frames.specs.Deciding.{Decides};
+ghost use Rattle.std.specs.List.{list_any};
+ghost use Rattle.rule.specs.Orders.{head_offered};
+ghost use Rattle.frames.specs.Deciding.{Declines, Decides};
 
 use crate::choosing::chosen;
 use crate::lengths::{frame_offered, speed_offered};
-use crate::sent::frame_formed;
-use crate::{Choice, Decided, Frame};
-use rule::{Answer, Refusal, first};
-use timetable::Times;
+use crate::{Decided, Frame};
+use rule::{Refusal, first};
+use timetable::Timetable;
 
 // An empty queue, or a frame's length.
+#[tactic(auto, using(crate::proofs::Decisions::head_test))]
 fn head_offered(len: u64) -> bool
     ensures { result ≡ head_offered len }
 {
@@ -23,57 +21,42 @@ fn head_offered(len: u64) -> bool
 
 // One of the heads is neither.
 fn head_wrong(heads: [u64; 8]) -> bool
-    ensures { result ≡ any (λ n. not (head_offered n)) heads }
+    ensures { result ≡ list_any (λ n. not (head_offered n)) heads }
 {
-    let mut wrong = false;
-    for k in 0..8 {
-        let offered = head_offered(heads[k]);
-        wrong = wrong | !offered;
-    }
-    wrong
+    heads.iter().any(|h| !head_offered(*h))
 }
 
-// The frame as an answer.
-fn answer_of(f: Frame) -> Choice
-    ensures { result ≡ choice_of none (decode_frame f) }
+// Why a transmit is refused, if it is: 14, 13, 17, 12.
+fn declined(g: &Timetable, f: Frame, heads: [u64; 8], speed: u64) -> Result<(), Refusal>
+    ensures { Declines heads speed g.now f result }
 {
-    if f.present == 1 {
-        return Choice::Frame(f.class, f.start, f.last, f.end);
-    }
-    Choice::Nothing
-}
-
-// What a transmit decides, by the lengths at the heads of the eight queues (0: empty) and the speed in Mbit/s, on a timetable whose lists stand in lent
-// arrays and a frame. Refused: 14, 13, 17, 12.
-pub fn decide<'a>(
-    x: Times,
-    os: &'a [u8; 128],
-    vs: &'a [u32; 128],
-    ws: &'a [u8; 128],
-    zs: &'a [u32; 128],
-    f: Frame,
-    heads: [u64; 8],
-    speed: u64,
-) -> Decided
-    ensures { Decides heads speed (record { times = x; octets = os.now; intervals = vs.now; newoctets = ws.now; newintervals = zs.now }) f result }
-{
-    let formed = timetable::formed(x, os, vs, ws, zs);
-    let sent = frame_formed(f, x.clock);
+    let formed = g.formed();
+    let sent = f.formed(g.times.clock);
     let offered = speed_offered(speed);
     let wrong = head_wrong(heads);
     let sending = f.present == 1;
     let good = formed & sent;
-    let headed = first(wrong, Refusal::HeadLength, Answer::Done);
+    let headed = first(wrong, Refusal::HeadLength, Ok(()));
     let free = first(sending, Refusal::FrameSending, headed);
     let fast = first(!offered, Refusal::Speed, free);
-    let refusal = first(!good, Refusal::MalformedPort, fast);
-    if let Answer::Refused(reason) = refusal {
-        return Decided {
-            answer: Choice::Refused(reason),
+    first(!good, Refusal::MalformedPort, fast)
+}
+
+// What a transmit decides, by the lengths at the heads of the eight queues (0: empty) and the speed in Mbit/s, on a timetable and a frame.
+pub fn decide(g: &Timetable, f: Frame, heads: [u64; 8], speed: u64) -> Decided
+    ensures { Decides heads speed g.now f result }
+{
+    match declined(g, f, heads, speed) {
+        Err(reason) => Decided {
+            answer: Err(reason),
             frame: f,
-        };
+        },
+        Ok(()) => {
+            let frame = chosen(g, heads, speed);
+            Decided {
+                answer: Ok(frame.sending()),
+                frame,
+            }
+        }
     }
-    let frame = chosen(x, os, vs, ws, zs, heads, speed);
-    let answer = answer_of(frame);
-    Decided { answer, frame }
 }

@@ -1,11 +1,12 @@
 // How long a frame takes: the speeds and lengths that are offered, and the time to the last octet and to the earliest next start.
-ghost use Rattle.std.specs.Prelude.{◌≡◌};
+ghost use Rattle.std.specs.Prelude.{◌≡◌, true};
 ghost use Rattle.rule.specs.Orders.{speed_offered, frame_offered};
-ghost use Rattle.frames.specs.Lengths.{Lasts};
+ghost use Rattle.frames.specs.Lengths.{OctetTime, Lasts};
 
 use crate::FrameTime;
 use rule::Refusal;
 
+#[tactic(auto, using(crate::proofs::Decisions::speed_test))]
 pub fn speed_offered(speed: u64) -> bool
     ensures { result ≡ speed_offered speed }
 {
@@ -19,19 +20,28 @@ pub fn frame_offered(len: u64) -> bool
     (64 <= len) & (len <= 2_000)
 }
 
-// How long a frame of a length takes at a speed in Mbit/s: 8,000 / speed ns for each octet of it and for 8 more to its last octet, and 12 times that more to
-// the earliest next start. Refused: 13, 12.
-pub fn duration(len: u64, speed: u64) -> FrameTime
+// The time of an octet in ns, at a speed in Mbit/s that is offered.
+#[tactic(auto, using(crate::proofs::Lasting::octet_times, crate::proofs::Lasting::speed_some))]
+pub fn octet_time(speed: u64) -> u64
+    requires { speed_offered speed ≡ true }
+    ensures { OctetTime speed result }
+{
+    8_000 / speed
+}
+
+// How long a frame of a length takes at a speed in Mbit/s: the time of its octets and of 8 more to its last octet, and of 12 more to the earliest next start.
+// Refused: 13, 12.
+pub fn duration(len: u64, speed: u64) -> Result<FrameTime, Refusal>
     ensures { Lasts len speed result }
 {
     if !speed_offered(speed) {
-        return FrameTime::Refused(Refusal::Speed);
+        return Err(Refusal::Speed);
     }
     if !frame_offered(len) {
-        return FrameTime::Refused(Refusal::HeadLength);
+        return Err(Refusal::HeadLength);
     }
-    let octet_time = 8_000 / speed;
+    let octet_time = octet_time(speed);
     let last = (len + 8) * octet_time;
     let next = last + 12 * octet_time;
-    FrameTime::Takes(last, next)
+    Ok(FrameTime { last, next })
 }

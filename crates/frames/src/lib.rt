@@ -10,12 +10,11 @@ mod sent;
 pub use deciding::decide;
 pub use lengths::duration;
 use rule::Refusal;
-pub use sent::{frame_formed, no_frame};
 
 // The frame being sent: the marks, 0 or 1, that it is there and that its overrun has been counted, its class, and the instants at which it starts, at which
 // its last octet is out, and from which on the next frame may start. All zeros if absent.
 #[repr(C)]
-#[derive(Clone, Copy)]
+#[derive(Clone, Copy, Debug, PartialEq, Eq)]
 pub struct Frame {
     pub present: u8,
     pub class: u8,
@@ -25,25 +24,25 @@ pub struct Frame {
     pub end: u64,
 }
 
-// What a transmit answers: the class of the frame chosen with the instants of its start, of its last octet and of the earliest next start, nothing, or
-// refused for a reason.
-#[derive(Clone, Copy)]
-pub enum Choice {
-    Frame(u8, u64, u64, u64),
-    Nothing,
-    Refused(Refusal),
+// A frame that begins to be sent: its class, and the instants of its start, of its last octet and of the earliest next start.
+#[derive(Clone, Copy, Debug, PartialEq, Eq)]
+pub struct Sending {
+    pub class: u8,
+    pub start: u64,
+    pub last: u64,
+    pub end: u64,
 }
 
-// What a transmit answers, and the frame of the port after it.
-#[derive(Clone, Copy)]
+// What a transmit answers, the frame chosen or none, or refused for a reason; and the frame of the port after it.
+#[derive(Clone, Copy, Debug, PartialEq, Eq)]
 pub struct Decided {
-    pub answer: Choice,
+    pub answer: Result<Option<Sending>, Refusal>,
     pub frame: Frame,
 }
 
-// How long a frame takes: so many ns to its last octet, and to the earliest next start; or refused for a reason.
-#[derive(Clone, Copy)]
-pub enum FrameTime {
-    Takes(u64, u64),
-    Refused(Refusal),
+// How long a frame takes: so many ns to its last octet, and to the earliest next start.
+#[derive(Clone, Copy, Debug, PartialEq, Eq)]
+pub struct FrameTime {
+    pub last: u64,
+    pub next: u64,
 }

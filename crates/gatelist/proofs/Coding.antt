@@ -9,12 +9,14 @@ use native.Mathlib.Nat.{add-zero, add-suc, suc-add, zero-add}
 use native.Mathlib.Omega.{arith}
 use lib.Dec.{leb}
 use borrow.Author.Tests.{leb-true, leb-false}
-use lib.ListN.{length, get_or, set, take, drop, replicate, length-set, length-take, length-drop, length-append, length-map, take-append-drop, get_or-append, get_or-map}
+use lib.ListN.{length, get_or, set, take, drop, replicate, length-take, length-drop, length-append, length-map, take-append-drop, get_or-append, get_or-map}
+use Rattle.std.proofs.lemmas.List.{drop-replicate, drop_all, length-set}
 use lib.Seq.{set_at, take_all, length-take-le, ext_get_or, get_or-take, get_or-append-add, get_or-drop}
 use Rattle.rule.specs.Entries.{Entry}
 use Rattle.gatelist.specs.declared.GateList.{GateList}
 use Rattle.gatelist.specs.Coding.{list_from, entry_of, list_of, padded, encode_list}
 use Rattle.gatelist.specs.Places.{cleaned_list, Places}
+use Rattle.gatelist.specs.Promises.{CopiesUsed, Puts}
 
 -- lists made place by place
 
@@ -107,13 +109,32 @@ filled_more f a i v h e c = record {
   same = ap₂ (λ l w. set l i w) c.same e ∙ padded-more (list_from f 0 i) i (f i) (length_from f 0 i) h ∙ ap padded (sym (from_more f i));
 }
 
--- an array copied as far as there is something to copy
-pub filled_all : (l a : List ℕ) (i n : ℕ) → length l ≡ 128 → i ≡ min n 128 → Filled (λ k. get_or l k 0) a i → a ≡ padded (take n l)
-filled_all l a i n s e c = c.same ∙ ap padded (take-from l i (omega arith) ∙ go (leb n 128) refl)
-  where
-    go : (b : Bool) → leb n 128 ≡ b → take i l ≡ take n l
-    go true q = let h = leb-true n 128 q in let f : i ≡ n = omega arith in ap (λ m. take m l) f
-    go false q = let h = leb-false n 128 q in take_all i l (omega arith) ∙ sym (take_all n l (omega arith))
+-- no more than the places that there are
+module _ {A : Type 0} (xs : List A) (n m : ℕ) (s : length xs ≡ 128) (e : m ≡ min n 128) where
+  few : {P : Type 0} → (m ≡ n → P) → (length xs ≤ m → length xs ≤ n → P) → P
+  few {P} f g = go (leb n 128) refl
+    where
+      go : (b : Bool) → leb n 128 ≡ b → P
+      go true q = let h = leb-true n 128 q in f (omega arith)
+      go false q = let h = leb-false n 128 q in g (omega arith) (omega arith)
+
+  pub take_few : take m xs ≡ take n xs
+  take_few = few (ap (λ k. take k xs)) (λ a b. take_all m xs a ∙ sym (take_all n xs b))
+
+  pub drop_few : drop m xs ≡ drop n xs
+  drop_few = few (ap (λ k. drop k xs)) (λ a b. drop_all m xs a ∙ sym (drop_all n xs b))
+
+-- an array of one value, whose first places are those of another array, as far as there are some
+pub copied_first : {A : Type 0} (xs : List A) (n m : ℕ) (x y : A) → length xs ≡ 128 → m ≡ min n 128 → x ≡ y
+    → take m xs ++ drop m (replicate 128 x) ≡ take n xs ++ replicate (128 - length (take n xs)) y
+copied_first xs n m x y s e q =
+    ap (λ l. l ++ drop m (replicate 128 x)) (take_few xs n m s e)
+    ∙ ap (λ l. take n xs ++ l) (drop-replicate m 128 x ∙ ap₂ (λ k z. replicate k z) (omega (arith, length-take n xs)) q)
+
+-- copied places of numbers are those with zeros behind them
+pub puts_copies : (xs r : List ℕ) (n : ℕ) → Puts (λ x. x ≡ 0) xs n r → CopiesUsed xs n r
+unfolding padded
+puts_copies xs r n h = h 0 (λ x e. e)
 
 -- the list of a record, and the record of a list
 

@@ -155,6 +155,3 @@ module _ (os is : List ℕ) (n o : ℕ) where
 
     pub octet-found : FindsOctet os is n o (get_or os p.number 0)
     octet-found = sym (number-octet os is n o some ∙ ap (λ i. get_or os i 0) place-number)
-
-    pub octet_beyond : length os ≤ p.number → FindsOctet os is n o 0
-    octet_beyond h = sym (get_or-eq_default os 0 h) ∙ octet-found

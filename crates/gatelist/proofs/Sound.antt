@@ -4,14 +4,16 @@
 use mathlib.Core.Path.{◌≡◌, refl, ap, sym, ◌∙◌}
 use mathlib.Core.Bool.{Bool, true, false, cond, not, ◌&&◌, ◌||◌, true≢false}
 use mathlib.Core.Logic.{◌⊎◌, inl, inr}
-use mathlib.Core.List.{List, [], map}
+use mathlib.Core.List.{List, [], ◌∷◌, map}
 use Prim.Native.Nat.{ℕ, zero, suc, ◌+◌, ◌-◌, ◌≤◌, ◌<◌, min}
 use native.Mathlib.Nat.{add-zero, add-suc, suc-add, zero-add, eq-or-lt_of_le, lt_of_not-le}
-use native.Mathlib.Numerals.{add-one}
 use native.Mathlib.Omega.{arith}
 use lib.Dec.{leb, ltb, eqb}
 use lib.ListN.{length, get_or, take, get_or-eq_default, length-map}
 use borrow.Author.Tests.{lt-ltb, le-ltb, ltb-true, ltb-false, le-leb, leb-true, eq-eqb, ne_eqb, eqb-true, eqb-false, not-false}
+use Rattle.std.specs.List.{list_any, list_all}
+use lib.ListN.{drop, length-drop}
+use lib.Seq.{take_all}
 use Rattle.rule.specs.Entries.{Entry}
 use Rattle.rule.proofs.Orders.{both}
 use Rattle.rule.specs.Orders.{length_offered, has_zero_interval}
@@ -20,7 +22,7 @@ use Rattle.gatelist.specs.Coding.{list_from, entry_of, entries_from, list_of, pa
 use Rattle.gatelist.specs.Places.{cleaned_list, Places, used_ok, rest_ok}
 use Rattle.gatelist.specs.Sound.{every_below, place_ok, places_ok, list_ok, list_none, list_formed}
 use Rattle.gatelist.specs.Promises.{FindsZero}
-use Rattle.gatelist.proofs.Coding.{list_decoded, padded-out, cleaned_encoded, cleaned_same}
+use Rattle.gatelist.proofs.Coding.{take_few, drop_few, list_decoded, padded-out, cleaned_encoded, cleaned_same}
 
 -- tests
 
@@ -35,16 +37,7 @@ same_false true false f g = g refl
 same_false false true f g = sym (f refl)
 same_false false false f g = refl
 
-pub twice : (b : Bool) → not (not b) ≡ b
-twice true = refl
-twice false = refl
-
 module _ (p : ℕ → Bool) where
-  -- a loop's next turn
-  pub every_more : (i : ℕ) (b t : Bool) → b ≡ every_below p i → t ≡ p i → b && t ≡ every_below p (i + 1)
-  unfolding every_below
-  every_more i b t e q = rw (add-one, e, q)
-
   every_at : (n k : ℕ) → every_below p n ≡ true → k < n → p k ≡ true
   unfolding every_below
   every_at zero k e h = absurd (omega arith)
@@ -58,21 +51,6 @@ module _ (p : ℕ → Bool) where
   unfolding every_below
   every_all zero f = refl
   every_all (suc n) f = rw (every_all n (λ k h. f k (omega arith)), f n (omega arith))
-
-  -- the tests from n on hold of themselves
-  pub every_end : (n m : ℕ) → n ≤ m → ((k : ℕ) → n ≤ k → k < m → p k ≡ true) → every_below p n ≡ every_below p m
-  unfolding every_below
-  every_end n m l f =
-      let e : m ≡ n + (m - n) = omega arith in
-      go (m - n) (λ k h q. f k h (omega arith)) ∙ ap (every_below p) (sym e)
-    where
-      go : (d : ℕ) → ((k : ℕ) → n ≤ k → k < n + d → p k ≡ true) → every_below p n ≡ every_below p (n + d)
-      go zero f = ap (every_below p) (sym (add-zero n))
-      go (suc d) f = go d (λ k h q. f k h (omega arith)) ∙ sym (ap (every_below p) (add-suc n d) ∙ keep (every_below p (n + d)) (p (n + d)) (f (n + d) (omega arith) (omega arith)))
-        where
-          keep : (a b : Bool) → b ≡ true → a && b ≡ a
-          keep true b e = e
-          keep false b e = refl
 
 -- three tests at each place are three rounds of tests
 pub every_three : (p q r : ℕ → Bool) (n : ℕ) → every_below (λ k. p k && (q k && r k)) n ≡ every_below p n && (every_below q n && every_below r n)
@@ -109,39 +87,59 @@ places_three os is n m =
     place : (k : ℕ) → used_ok is n k && (rest_ok is n k && rest_ok os n k) ≡ place_ok os is n k
     place k = three (ltb k n) (eqb (get_or is k 0) 0) (eqb (get_or os k 0) 0)
 
--- the used places: each turn of a loop over them, and the places behind them
-module _ (is : List ℕ) (n : ℕ) where
-  pub used-more : (i : ℕ) (found : Bool) → found ≡ not (every_below (used_ok is n) i) → i < n → found || eqb (get_or is i 0) 0 ≡ not (every_below (used_ok is n) (i + 1))
-  unfolding every_below used_ok
-  used-more i found e h = rw (add-one, e, lt-ltb i n h) (turn (every_below (used_ok is n) i) (eqb (get_or is i 0) 0))
-    where
-      turn : (a b : Bool) → not a || b ≡ not (a && not b)
-      turn true true = refl
-      turn true false = refl
-      turn false b = refl
+-- tests from the first on
+every_front : (p : ℕ → Bool) (n : ℕ) → every_below p (suc n) ≡ p 0 && every_below (λ k. p (suc k)) n
+unfolding every_below
+every_front p zero = go (p 0)
+  where
+    go : (b : Bool) → true && b ≡ b && true
+    go true = refl
+    go false = refl
+every_front p (suc n) = ap (λ b. b && p (suc n)) (every_front p n) ∙ go (p 0) (every_below (λ k. p (suc k)) n) (p (suc n))
+  where
+    go : (a b c : Bool) → (a && b) && c ≡ a && (b && c)
+    go true b c = refl
+    go false b c = refl
 
-  pub used-end : (m : ℕ) → m ≡ min n 128 → every_below (used_ok is n) m ≡ every_below (used_ok is n) 128
-  unfolding used_ok
-  used-end m e = every_end (used_ok is n) m 128 (omega arith) (λ k h l. free k (omega arith))
-    where
-      free : (k : ℕ) → n ≤ k → used_ok is n k ≡ true
-      free k h = rw (le-ltb k n h)
+ltb_suc : (k n : ℕ) → ltb (suc k) (suc n) ≡ ltb k n
+ltb_suc k n = go (ltb k n) refl
+  where
+    go : (b : Bool) → ltb k n ≡ b → ltb (suc k) (suc n) ≡ b
+    go true e = lt-ltb (suc k) (suc n) (omega (arith, ltb-true k n e))
+    go false e = le-ltb (suc k) (suc n) (omega (arith, ltb-false k n e))
 
--- the unused places likewise
-module _ (xs : List ℕ) (n : ℕ) where
-  pub rest-start : (m : ℕ) → m ≡ min n 128 → true ≡ every_below (rest_ok xs n) m
-  unfolding rest_ok
-  rest-start m e = sym (every_all (rest_ok xs n) m (λ k h. free k (omega arith)))
-    where
-      free : (k : ℕ) → k < n → rest_ok xs n k ≡ true
-      free k h = rw (lt-ltb k n h)
+-- the used places and the unused ones, as the loops over them tell
+used_listed : (is : List ℕ) (n : ℕ) → not (list_any (λ x. eqb x 0) (take n is)) ≡ every_below (used_ok is n) (length is)
+unfolding used_ok every_below
+used_listed is zero = sym (every_all (used_ok is 0) (length is) (λ k _. rw (le-ltb k 0 (omega arith))))
+used_listed [] (suc n) = refl
+used_listed (x ∷ is) (suc n) =
+    either (eqb x 0) (list_any (λ y. eqb y 0) (take n is))
+    ∙ ap (λ b. not (eqb x 0) && b) (used_listed is n ∙ every_same (used_ok is n) (λ k. used_ok (x ∷ is) (suc n) (suc k)) (length is) (λ k. rw (ltb_suc k n)))
+    ∙ sym (every_front (used_ok (x ∷ is) (suc n)) (length is) ∙ rw (lt-ltb 0 (suc n) (omega arith)))
+  where
+    either : (a b : Bool) → not (a || b) ≡ not a && not b
+    either true b = refl
+    either false b = refl
 
-  pub rest_more : (i : ℕ) (clear : Bool) → clear ≡ every_below (rest_ok xs n) i → n ≤ i → clear && eqb (get_or xs i 0) 0 ≡ every_below (rest_ok xs n) (i + 1)
-  unfolding rest_ok
-  rest_more i clear e h = every_more (rest_ok xs n) i clear _ e here
-    where
-      here : eqb (get_or xs i 0) 0 ≡ rest_ok xs n i
-      here = rw (le-ltb i n h)
+rest_listed : (xs : List ℕ) (n : ℕ) → list_all (λ x. eqb x 0) (drop n xs) ≡ every_below (rest_ok xs n) (length xs)
+unfolding rest_ok every_below
+rest_listed [] zero = refl
+rest_listed [] (suc n) = refl
+rest_listed (x ∷ xs) zero =
+    ap (λ b. eqb x 0 && b) (rest_listed xs zero ∙ every_same (rest_ok xs 0) (λ k. rest_ok (x ∷ xs) 0 (suc k)) (length xs) (λ k. rw (le-ltb k 0 (omega arith), le-ltb (suc k) 0 (omega arith))))
+    ∙ sym (every_front (rest_ok (x ∷ xs) 0) (length xs))
+rest_listed (x ∷ xs) (suc n) =
+    rest_listed xs n ∙ every_same (rest_ok xs n) (λ k. rest_ok (x ∷ xs) (suc n) (suc k)) (length xs) (λ k. rw (ltb_suc k n))
+    ∙ sym (every_front (rest_ok (x ∷ xs) (suc n)) (length xs) ∙ rw (lt-ltb 0 (suc n) (omega arith)))
+
+module _ (xs : List ℕ) (n m : ℕ) (s : length xs ≡ 128) (e : m ≡ min n 128) (r : Bool) where
+  pub used_told : r ≡ list_any (λ x. eqb x 0) (take m xs) → not r ≡ every_below (used_ok xs n) 128
+  used_told q = ap not (q ∙ ap (list_any (λ x. eqb x 0)) (take_few xs n m s e)) ∙ used_listed xs n ∙ ap (every_below (used_ok xs n)) s
+
+  pub rest_told : r ≡ list_all (λ x. eqb x 0) (take (128 - m) (drop m xs)) → r ≡ every_below (rest_ok xs n) 128
+  rest_told q =
+      q ∙ ap (list_all (λ x. eqb x 0)) (take_all (128 - m) (drop m xs) (omega (arith, length-drop m xs)) ∙ drop_few xs n m s e) ∙ rest_listed xs n ∙ ap (every_below (rest_ok xs n)) s
 
 -- the two checks, as they are made
 module _ (l : GateList) (good : Bool) (e : good ≡ every_below (place_ok l.octets l.intervals l.len) 128) where

@@ -5,6 +5,7 @@ use Rattle.std.specs.Prelude.{List, [], ◌∷◌, ◌++◌, map, ℕ, zero, suc
 use Rattle.rule.specs.Limits.{largest_list}
 use Rattle.rule.specs.Entries.{Entry}
 use Rattle.gatelist.specs.declared.GateList.{GateList}
+use Rattle.gatelist.specs.declared.Entries.{Entries}
 
 -- f i, f (i + 1) and so on, n of them
 unfoldable pub list_from : {A : Type 0} → (ℕ → A) → ℕ → ℕ → List A
@@ -21,6 +22,10 @@ entries_from os is i n = list_from (entry_of os is) i n
 -- the list that a record stands for
 abbrev pub list_of : GateList → List Entry
 list_of l = entries_from l.octets l.intervals 0 l.len
+
+-- the list record of entries that are lent
+abbrev pub lent : Entries → GateList
+lent e = record { octets = e.octets.now; intervals = e.intervals.now; len = e.len }
 
 -- 128 places, the unused ones zero
 unfoldable pub padded : List ℕ → List ℕ

@@ -1,8 +1,7 @@
 -- Document 01, 'What the gates show' (8.6.9.2), over a list record's intervals: the number of the entry whose stretch contains an offset, where that
 -- stretch starts and where it ends. The octets have no part in it.
 -- Assumes nothing.
-use Rattle.std.specs.Prelude.{◌≡◌, List, [], ℕ, zero, suc, ◌+◌, ◌<◌, length, get_or}
-use Rattle.rule.specs.Limits.{largest_list}
+use Rattle.std.specs.Prelude.{List, [], ℕ, zero, suc, ◌+◌, get_or}
 use Rattle.rule.specs.Entries.{entry_no}
 use Rattle.gatelist.specs.declared.Place.{Place}
 use Rattle.gatelist.specs.Coding.{entries_from}
@@ -11,12 +10,6 @@ use Rattle.gatelist.specs.Coding.{entries_from}
 unfoldable pub sum_to : List ℕ → ℕ → ℕ
 sum_to is zero = 0
 sum_to is (suc i) = sum_to is i + get_or is i 0
-
--- the interval at a place of the array, of which the array's type says how long it is
-pub record IntervalAt (is : List ℕ) (i r : ℕ) : Type 0 where
-  pub value : r ≡ get_or is i 0
-  pub small : r < 4294967296
-  pub long : length is ≡ largest_list
 
 -- entry i, with its stretch
 abbrev pub place_of : List ℕ → ℕ → Place

@@ -27,3 +27,7 @@ rest_ok xs n k = ltb k n || eqb (get_or xs k 0) 0
 pub record Checked (l : GateList) (there answer : Bool) : Type 0 where
   pub found : answer ≡ list_formed there l
   pub places : Places l
+
+-- that holds of the default of a type that has one
+abbrev pub TestsNone : {A : Type 0} → (A → Type 0) → (A → Type 0) → Type 0
+TestsNone {A} is_default P = (none : A) → ((x : A) → is_default x → x ≡ none) → P none

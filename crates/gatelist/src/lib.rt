@@ -2,13 +2,15 @@
 // Every function takes any record, any length, any offset. Nothing is refused.
 #![tactic(auto)]
 
-ghost use Rattle.std.specs.Prelude.{◌≡◌, ◌<◌, min, length};
+ghost use Rattle.std.specs.Prelude.{◌≡◌, ◌<◌, length, get_or};
+ghost use Rattle.std.specs.List.{list_any, list_all};
+ghost use Rattle.gatelist.specs.Coding.{lent};
 ghost use Rattle.gatelist.specs.Sound.{every_below, place_ok};
-ghost use Rattle.gatelist.specs.Places.{used_ok, rest_ok, Checked};
-ghost use Rattle.gatelist.specs.Lookup.{IntervalAt};
-ghost use Rattle.gatelist.specs.Promises.{Widens, FindsZero, Empty, CopiesUsed, ShowsGate, FindsPlace, FindsOctet};
+ghost use Rattle.gatelist.specs.Places.{TestsNone, used_ok, Checked};
+ghost use Rattle.gatelist.specs.Promises.{FindsZero, Empty, Puts, ShowsGate, FindsPlace, FindsOctet};
 
-// A list: entry k has the gate octet octets[k] and the interval intervals[k] in nanoseconds, for k below len. The other places are unused.
+// A list: entry k has the gate octet octets[k] and the interval intervals[k] in nanoseconds, for k below len. The other places are unused. Two arrays with
+// a length, since C lays the record out (include/port.h).
 #[repr(C)]
 #[derive(Clone, Copy)]
 pub struct GateList {
@@ -26,96 +28,58 @@ pub struct Place {
     pub end: u64,
 }
 
-// An interval as a time.
-pub fn wide(x: u32) -> u64
-    ensures { Widens x result }
-{
-    x as u64
+// The entries of a list that stand in two lent arrays, as many as are in use.
+#[derive(Clone, Copy)]
+pub struct Entries<'a> {
+    pub octets: &'a [u8; 128],
+    pub intervals: &'a [u32; 128],
+    pub len: usize,
 }
 
-// The lower of a length and 128.
-fn at_most_max(n: usize) -> usize
-    ensures { result ≡ min n 128 }
+// Whether a place holds the default. This loop and the next leave no place out and never leave early, so that many places are compared at a time: with `all`
+// they take four times the instructions.
+fn any_none<T: Copy + Default + PartialEq>(places: &[T]) -> bool
+    ensures { TestsNone T.is_default (λ is. result ≡ list_any (λ x. T.eq x is) places.now) }
 {
-    if n <= GateList::MAX { n } else { GateList::MAX }
+    let none = T::default();
+    let mut found = false;
+    for x in places {
+        found = found | (*x == none);
+    }
+    found
 }
 
-// No used interval is 0, as far as the 128 places go. This loop and the two below leave no place out and never leave early, so that many places are
-// compared at a time.
+// Whether all places do.
+fn all_none<T: Copy + Default + PartialEq>(places: &[T]) -> bool
+    ensures { TestsNone T.is_default (λ is. result ≡ list_all (λ x. T.eq x is) places.now) }
+{
+    let none = T::default();
+    let mut clear = true;
+    for x in places {
+        clear = clear & (*x == none);
+    }
+    clear
+}
+
+// No used interval is 0, as far as the 128 places go.
 fn intervals_ok(intervals: &[u32; 128], len: usize) -> bool
-    ensures { result ≡ every_below (used_ok intervals.now len) 128 }
+    ensures places { length intervals.now ≡ 128 }
+    ensures used { result ≡ every_below (used_ok intervals.now len) 128 }
 {
-    let n = at_most_max(len);
-    let mut zero = false;
-    for i in 0..n {
-        zero = zero | (intervals[i] == 0);
-    }
-    !zero
-}
-
-// Every unused interval is 0.
-fn intervals_clear(intervals: &[u32; 128], len: usize) -> bool
-    ensures { result ≡ every_below (rest_ok intervals.now len) 128 }
-{
-    let n = at_most_max(len);
-    let mut clear = true;
-    for i in n..GateList::MAX {
-        clear = clear & (intervals[i] == 0);
-    }
-    clear
-}
-
-// Every unused octet is 0.
-fn octets_clear(octets: &[u8; 128], len: usize) -> bool
-    ensures { result ≡ every_below (rest_ok octets.now len) 128 }
-{
-    let n = at_most_max(len);
-    let mut clear = true;
-    for i in n..GateList::MAX {
-        clear = clear & (octets[i] == 0);
-    }
-    clear
+    !any_none(&intervals[..len.min(GateList::MAX)])
 }
 
 // Every used interval is not 0, and every unused place is 0 in both arrays.
 fn places_ok<'a>(octets: &'a [u8; 128], intervals: &'a [u32; 128], len: usize) -> bool
-    ensures { result ≡ every_below (place_ok octets.now intervals.now len) 128 }
+    ensures octets { length octets.now ≡ 128 }
+    ensures intervals { length intervals.now ≡ 128 }
+    ensures places { result ≡ every_below (place_ok octets.now intervals.now len) 128 }
 {
+    let n = len.min(GateList::MAX);
     let used = intervals_ok(intervals, len);
-    let later = intervals_clear(intervals, len);
-    let shut = octets_clear(octets, len);
+    let later = all_none(&intervals[n..]);
+    let shut = all_none(&octets[n..]);
     used & (later & shut)
-}
-
-// What the type says of an array: it has 128 places. Nothing is computed.
-fn sized(a: [u32; 128])
-    ensures { length a ≡ 128 }
-{}
-
-fn sized_octets(a: [u8; 128])
-    ensures { length a ≡ 128 }
-{}
-
-// The list in two lent arrays is well formed. If it is there: 1 to 128 entries, used intervals not 0, unused places 0. If it is absent: all zeros.
-pub fn formed<'a>(octets: &'a [u8; 128], intervals: &'a [u32; 128], len: usize, there: bool) -> bool
-    ensures { Checked (record { octets = octets.entry.now; intervals = intervals.now; len = len }) there result }
-{
-    sized_octets(*octets);
-    sized(*intervals);
-    let good = places_ok(octets, intervals, len);
-    if there {
-        return (1 <= len) & (len <= GateList::MAX) & good;
-    }
-    (len == 0) & good
-}
-
-// A used interval is 0. A place beyond the 128 counts as 0.
-pub fn has_zero(intervals: &[u32; 128], len: usize) -> bool
-    ensures { FindsZero intervals.now len result }
-{
-    sized(*intervals);
-    let good = intervals_ok(intervals, len);
-    !((len <= GateList::MAX) & good)
 }
 
 impl GateList {
@@ -123,6 +87,7 @@ impl GateList {
     pub const MAX: usize = 128;
 
     // The list of all zeros.
+    #[tactic(auto, unfolding(crate::specs::Coding::empty_list))]
     pub fn empty() -> Self
         ensures { Empty result }
     {
@@ -132,30 +97,28 @@ impl GateList {
             len: 0,
         }
     }
-}
 
-// Writes the used octets of a list into another array, and zero into its unused places.
-pub fn put_octets(octets: &[u8; 128], len: usize, into: &mut [u8; 128])
-    ensures { CopiesUsed octets.now len into.new }
-{
-    sized_octets(*octets);
-    let used = at_most_max(len);
-    *into = [0u8; 128];
-    for i in 0..used {
-        into[i] = octets[i];
+    // The entries of a list record, lent.
+    pub fn entries(&self) -> Entries<'_>
+        ensures { lent result ≡ self.now }
+    {
+        Entries {
+            octets: &self.octets,
+            intervals: &self.intervals,
+            len: self.len,
+        }
     }
 }
 
-// The same of its intervals.
-pub fn put_intervals(intervals: &[u32; 128], len: usize, into: &mut [u32; 128])
-    ensures { CopiesUsed intervals.now len into.new }
+// Writes the used places of one of a list's arrays into another array, and zero into its unused places.
+pub fn put<T: Copy + Default>(from: &[T; 128], len: usize, into: &mut [T; 128])
+    ensures { Puts T.is_default from.now len into.new }
 {
-    sized(*intervals);
-    let used = at_most_max(len);
-    *into = [0u32; 128];
-    for i in 0..used {
-        into[i] = intervals[i];
-    }
+    let none = [T::default(); 128];
+    let n = len.min(GateList::MAX);
+    *into = none;
+    let (used, _) = into[..].split_at_mut(n);
+    used.copy_from_slice(&from[..n]);
 }
 
 // One class's gate in an octet: class 7 is the most significant bit, 1 is open. There is no gate of a class above 7: closed.
@@ -168,54 +131,71 @@ pub fn gate(octet: u8, class: u8) -> bool
     (octet >> class) & 1 == 1
 }
 
-// The interval at a place; a place beyond the 128 has 0.
-fn interval_at(intervals: &[u32; 128], i: usize) -> u64
-    ensures { IntervalAt intervals.now i result }
+// The value at a place; a place beyond the 128 has the one given.
+fn value_at<T: Copy>(places: &[T; 128], i: usize, none: T) -> T
+    ensures value { result ≡ get_or places.now i none }
+    ensures places { length places.now ≡ 128 }
 {
-    sized(*intervals);
-    if GateList::MAX <= i {
-        return 0;
-    }
-    wide(intervals[i])
+    places.get(i).copied().unwrap_or(none)
 }
 
-// The entry of a list of len intervals whose stretch contains an offset: the first whose end lies past it, or else the last.
-pub fn entry_at(intervals: &[u32; 128], len: usize, offset: u64) -> Place
-    ensures { FindsPlace intervals.now len offset result }
-{
-    let mut rest = offset;
-    let mut i: usize = 0;
-    let number = loop {
-        if len <= i + 1 {
-            break i;
+impl<'a> Entries<'a> {
+    // They are those of a well-formed list. If it is there: 1 to 128 entries, used intervals not 0, unused places 0. If it is absent: all zeros.
+    pub fn formed(self, there: bool) -> bool
+        ensures { Checked (lent self.entry) there result }
+    {
+        let len = self.len;
+        let good = places_ok(self.octets, self.intervals, len);
+        if there {
+            return (1 <= len) & (len <= GateList::MAX) & good;
         }
-        if i == GateList::MAX {
-            break len - 1;
-        }
-        let interval = wide(intervals[i]);
-        if rest < interval {
-            break i;
-        }
-        rest = rest - interval;
-        i = i + 1;
-    };
-    let start = offset - rest;
-    let end = start + interval_at(intervals, number);
-    Place { number, start, end }
-}
+        (len == 0) & good
+    }
 
-// The octet of that entry. A list of no entry has 0, and so has a place beyond the 128.
-pub fn octet_at<'a>(octets: &'a [u8; 128], intervals: &'a [u32; 128], len: usize, offset: u64) -> u8
-    ensures { FindsOctet octets.now intervals.now len offset result }
-{
-    if len == 0 {
-        return 0;
+    // A used interval is 0. A place beyond the 128 counts as 0.
+    pub fn has_zero(self) -> bool
+        ensures { FindsZero self.entry.intervals.now self.entry.len result }
+    {
+        let good = intervals_ok(self.intervals, self.len);
+        !((self.len <= GateList::MAX) & good)
     }
-    let place = entry_at(intervals, len, offset);
-    let i = place.number;
-    if GateList::MAX <= i {
-        sized_octets(*octets);
-        return 0;
+
+    // The entry whose stretch contains an offset: the first whose end lies past it, or else the last. A loop that breaks with the entry number, as document 01
+    // names it.
+    pub fn entry_at(self, offset: u64) -> Place
+        ensures { FindsPlace self.entry.intervals.now self.entry.len offset result }
+    {
+        let intervals = self.intervals;
+        let len = self.len;
+        let mut rest = offset;
+        let mut i: usize = 0;
+        let number = loop {
+            if len <= i + 1 {
+                break i;
+            }
+            if i == GateList::MAX {
+                break len - 1;
+            }
+            let interval = u64::from(intervals[i]);
+            if rest < interval {
+                break i;
+            }
+            rest = rest - interval;
+            i = i + 1;
+        };
+        let start = offset - rest;
+        let end = start + u64::from(value_at(intervals, number, 0));
+        Place { number, start, end }
     }
-    octets[i]
+
+    // The octet of that entry. A list of no entry has 0, and so has a place beyond the 128.
+    pub fn octet_at(self, offset: u64) -> u8
+        ensures { FindsOctet self.entry.octets.now self.entry.intervals.now self.entry.len offset result }
+    {
+        if self.len == 0 {
+            return 0;
+        }
+        let place = self.entry_at(offset);
+        value_at(self.octets, place.number, 0)
+    }
 }

@@ -10,6 +10,8 @@ use Prim.Native.Nat.{ℕ, ◌+◌, ◌-◌, ◌≤◌, min}
 use native.Mathlib.Omega.{arith}
 use lib.ListN.{length}
 use borrow.Author.Tests.{le-ltb}
+use Rattle.std.specs.Prelude.{Ok, Result}
+use Rattle.rule.specs.declared.Refusal.{Refusal}
 use Rattle.rule.specs.Limits.{largest_instant}
 use Rattle.rule.specs.Refusals.{accepted, numbered}
 use Rattle.rule.specs.Port as model
@@ -33,9 +35,6 @@ use Rattle.rule.proofs.Demand3 as port
 use Rattle.timetable.specs.Coding as timetable
 use Rattle.port.specs.declared.Port.{Port}
 use Rattle.port.specs.declared.Acted.{Acted}
-use Rattle.port.specs.declared.Looked.{Looked}
-use Rattle.port.specs.declared.Stepped.{Stepped}
-use Rattle.port.specs.declared.Looked.TheVariants as looked
 use Rattle.port.specs.Coding.{decode, encode}
 use Rattle.port.specs.Acts.{look_declines, Looks, Makes}
 use Rattle.port.specs.Step.{Steps}
@@ -66,17 +65,17 @@ module _ (m : model.Port) (s : Sound m) (f : ℕ → ℕ) (g : (n : ℕ) → sho
   unfolding look_declines look_order
   look-taken t h l = rw (formed m s, decode-encode m, le-ltb largest_instant t l, le-ltb t m.gates.clock h)
 
-  record_looks : (t : ℕ) → (encode m).gates.times.clock ≤ t → t ≤ largest_instant → (r : Looked) → Looks (encode m) t r → r ≡ looked.Octet (f t)
+  record_looks : (t : ℕ) → (encode m).gates.times.clock ≤ t → t ≤ largest_instant → (r : Result ℕ Refusal) → Looks (encode m) t r → r ≡ Ok (f t)
   record_looks t h l r k =
       let e = look-taken t (rw (clock-encode m) at h) l in
-      looked_told r (looked.Octet (f t)) (k.number ∙ ap numbered e)
+      looked_told r (Ok (f t)) (k.number ∙ ap numbered e)
       (k.octet ∙ ap (λ d. cond (accepted d) (shown (decode (encode m)).gates t) 0) e ∙ record_shows t h)
 
   now-shown : (n : ℕ) → shown (ticks machine n m).gates (ticks machine n m).gates.clock ≡ f (m.gates.clock + n)
   unfolding shown_now
   now-shown n = g n
 
-  record_comes : (goal : ℕ) (at at' os os' : List ℕ) (r : Stepped) → Steps (encode m) goal at at' os os' r
+  record_comes : (goal : ℕ) (at at' os os' : List ℕ) (r : Acted ℕ) → Steps (encode m) goal at at' os os' r
       → shown (decode r.port).gates r.port.gates.times.clock ≡ f r.port.gates.times.clock
   record_comes goal at at' os os' r k =
       let n : ℕ = elapsed machine (series.step goal (min (length at) (length os))) m in
@@ -111,7 +110,7 @@ recorded_demand t₀ s₀ h cs =
       idle = λ e k i. (unwritten e.call (encode o.port) e.back k i, idle-outcome (encode o.port) (whole-encode o.port) e k i);
     }
 
-pub new_is : (t₀ s₀ : ℕ) → t₀ ≤ largest_instant → (r : Acted) → Makes t₀ s₀ r → r.port ≡ encode (new_port t₀ s₀)
+pub new_is : (t₀ s₀ : ℕ) → t₀ ≤ largest_instant → (r : Acted Unit) → Makes t₀ s₀ r → r.port ≡ encode (new_port t₀ s₀)
 unfolding new_order
 new_is t₀ s₀ h r k = k.port ∙ rw (le-ltb largest_instant t₀ h)
 
@@ -121,7 +120,7 @@ run_demand t₀ s₀ h cs =
     subst⁻¹ (Demand t₀ s₀ cs) (run_is cs (new_port t₀ s₀) (sound-new t₀ s₀ h)) (recorded_demand t₀ s₀ h cs)
 
 -- and whatever the contracts allow
-pub demand_3 : (t₀ s₀ : ℕ) → t₀ ≤ largest_instant → (r : Acted) → Makes t₀ s₀ r → (es : List Event) → Kept r.port es
+pub demand_3 : (t₀ s₀ : ℕ) → t₀ ≤ largest_instant → (r : Acted Unit) → Makes t₀ s₀ r → (es : List Event) → Kept r.port es
     → Demand t₀ s₀ (calls_of es) (outcome r.port es)
 demand_3 t₀ s₀ h r k es l =
     subst⁻¹ (Demand t₀ s₀ (calls_of es)) (outcome-is r.port es l ∙ ap (run (calls_of es)) (new_is t₀ s₀ h r k)) (run_demand t₀ s₀ h (calls_of es))
@@ -142,7 +141,7 @@ demand_same {t₀} {s₀} {cs} {ds} {o} {q} d f a c =
     let l = d.changed ∙ (λ i. rule_changes s₀ [] t₀ (reverse (effective (gate_acts (reverse (a i))))) (c i)) ∙ sym f.changed in
     λ i. record { port = p i; out = l i; acts = a i }
 
-module _ (t₀ s₀ : ℕ) (h : t₀ ≤ largest_instant) (r : Acted) (k : Makes t₀ s₀ r) (es fs : List Event) (l : Kept r.port es) (m : Kept r.port fs) where
+module _ (t₀ s₀ : ℕ) (h : t₀ ≤ largest_instant) (r : Acted Unit) (k : Makes t₀ s₀ r) (es fs : List Event) (l : Kept r.port es) (m : Kept r.port fs) where
   -- the same accepted acts at the same instants and the same end: the same record and the same changes
   pub same_outcome : (outcome r.port es).acts ≡ (outcome r.port fs).acts
       → (outcome r.port es).port.gates.times.clock ≡ (outcome r.port fs).port.gates.times.clock

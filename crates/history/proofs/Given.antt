@@ -30,7 +30,7 @@ use Rattle.port.proofs.Numbers.{number_of_lem, answer-told, looked_of, looked_nu
 use Rattle.driver.specs.declared.Answer as driver
 use Rattle.driver.specs.Lent.{answer_for, answer_to}
 use Rattle.history.specs.Calls.{Call, act, lend, step, look, room, leaves, reports, asked, attempted, performed, run}
-use Rattle.history.specs.Outcomes.{Handed, Allowed, StepOutcome, LentOutcome, next, paired, written, is_done, is_decided, taken, done, Event, calls_of, Kept, outcome, tries}
+use Rattle.history.specs.Outcomes.{Handed, Allowed, StepOutcome, LentOutcome, next, paired, written, is_done, taken, done, Event, calls_of, Kept, outcome, tries}
 
 -- what a step wrote can be read back
 
@@ -98,9 +98,8 @@ done_as : (d : Option Refusal) → is_done (answer_of d) ≡ accepted d
 done_as none = refl
 done_as (some r) = refl
 
-decided_as : (d : Option Refusal) (f : Option Frame) → is_decided (choice_of d f) ≡ accepted d
-decided_as none none = refl
-decided_as none (some f) = refl
+decided_as : (d : Option Refusal) (f : Option Frame) → is_done (choice_of d f) ≡ accepted d
+decided_as none f = refl
 decided_as (some r) f = refl
 
 -- no refusal has the number 0
@@ -117,7 +116,7 @@ taken_by (rule.transmit heads speed) p r k =
     let a : rule.Act = rule.transmit heads speed in
     let d : Option Refusal = declines a p in
     let f : Option Frame = (rule.performed a (decode p)).frame in
-    ap is_decided (choice_told r.answer (choice_of d f) (k.number ∙ sym (choice_number_lem d f)) k.values) ∙ decided_as d f
+    ap is_done (choice_told r.answer (choice_of d f) (k.number ∙ sym (choice_number_lem d f)) k.values) ∙ decided_as d f
 
 lent_taken : (heads : List ℕ) (speed : ℕ) (p : Port) (r : LentOutcome) → Allowed (lend heads speed) p r
     → taken (lend heads speed) r ≡ accepted (declines (rule.transmit heads speed) p)

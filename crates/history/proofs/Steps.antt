@@ -12,6 +12,7 @@ use native.Mathlib.Nat.{zero-add, suc-add}
 use native.Mathlib.Omega.{arith}
 use lib.ListN.{length, take, drop, get_or, length-take, length-map}
 use lib.Seq.{drop-append_seam, get_or_at}
+use Rattle.std.specs.Prelude.{Ok}
 use Rattle.rule.specs.declared.Refusal.{Refusal}
 use Rattle.rule.specs.Refusals.{accepted, numbered}
 use Rattle.rule.specs.Timetable.{shown}
@@ -28,7 +29,6 @@ use Rattle.rule.proofs.Changes.{log-shown}
 use Rattle.rule.proofs.Orders.{goal_passed}
 use Rattle.timetable.specs.Coding as timetable
 use Rattle.port.specs.declared.Port.{Port}
-use Rattle.port.specs.declared.StepAnswer.TheVariants as answer
 use Rattle.port.specs.Record.{well_formed}
 use Rattle.port.specs.Coding.{decode, encode}
 use Rattle.course.specs.Columns.{into}
@@ -86,7 +86,7 @@ changes_to p goal = changes (shown (decode p).gates) p.gates.times.clock (goal -
 -- m is the room, l the changes up to the goal, t the clock after the step
 pub record StepTold (p : Port) (goal : ℕ) (instants octets : List ℕ) (m : ℕ) (l : List (ℕ × ℕ)) (t : ℕ) (r : StepOutcome) : Type 0 where
   -- the first m are written, instant and octet; places beyond the written ones are unchanged
-  pub answer : r.result.answer ≡ answer.Written (min m (length l))
+  pub answer : r.result.answer ≡ Ok (min m (length l))
   pub first : written (step goal instants octets) r ≡ take m l
   pub beyond : (drop (min m (length l)) r.instants ≡ drop (min m (length l)) instants)
       × (drop (min m (length l)) r.octets ≡ drop (min m (length l)) octets)
@@ -168,7 +168,7 @@ module _ {p : Port} {goal : ℕ} {instants octets : List ℕ} {r : StepOutcome} 
       let first = z.first ∙ ap (take m) (log-told p goal) in
       let c : length l ≡ min m (length (changes_to p goal)) = ap length (reported-far h ∙ first) ∙ length-take m (changes_to p goal) in
       record {
-        answer = stepped-told r.result.answer (answer.Written (min m (length (changes_to p goal))))
+        answer = stepped-told r.result.answer (Ok (min m (length (changes_to p goal))))
             (h.allowed.number ∙ none_numbered (step_declines goal p) h.accepted)
             (h.allowed.written ∙ c);
         first = written-far h ∙ first;

@@ -10,6 +10,8 @@ use Prim.Native.Nat.{ℕ, zero, suc, ◌+◌, ◌-◌, ◌≤◌, ◌<◌}
 use native.Mathlib.Omega.{arith}
 use lib.Dec.{eqb}
 use borrow.Author.Tests.{le-ltb}
+use Rattle.std.specs.Prelude.{Some, None, Ok, Err, get_or}
+use Rattle.std.specs.Prelude as std
 use Rattle.rule.specs.Limits.{largest_instant}
 use Rattle.rule.specs.declared.Refusal.{Refusal}
 use Rattle.rule.specs.Refusals.{accepted}
@@ -37,12 +39,10 @@ use Rattle.rule.proofs.Choice.{Chosen, chosen_is}
 use Rattle.rule.proofs.Undisturbed.{OpenFrom, open_chosen, open_ticks}
 use Rattle.rule.proofs.Sound.{sound-new}
 use Rattle.timetable.specs.Coding as timetable
-use Rattle.frames.specs.declared.Choice.{Choice}
-use Rattle.frames.specs.declared.Choice.TheVariants as choice
-use Rattle.frames.specs.Decision.{choice_of}
+use Rattle.frames.specs.Decision.{Choice, choice_of, choice_values}
 use Rattle.port.specs.declared.Port.{Port}
 use Rattle.port.specs.declared.Acted.{Acted}
-use Rattle.port.specs.declared.Transmitted.{Transmitted}
+use Rattle.frames.specs.declared.Sending.{Sending}
 use Rattle.port.specs.Coding.{decode, encode}
 use Rattle.port.specs.Acts.{declines, after, Makes, Performs}
 use Rattle.port.specs.Transmit.{Transmits}
@@ -89,19 +89,20 @@ module _ (heads : List ℕ) (speed : ℕ) (m : model.Port) (class start last end
   abbrev Begins : Option Refusal → Type 0
   Begins d = (d ≡ none) × (begun ≡ some (named class start last end))
 
-  begins : (d : Option Refusal) → choice_of d begun ≡ choice.Frame class start last end → Begins d
+  begins : (d : Option Refusal) → choice_of d begun ≡ Ok (Some (record { class = class; start = start; last = last; end = end })) → Begins d
   begins d e = go d begun (chosen_is heads speed m.gates.clock (shown m.gates)) e
     where
       go : (d : Option Refusal) (r : Option model.Frame)
           → Chosen heads speed m.gates.clock (qualifies heads speed m.gates.clock (shown m.gates)) r
-          → choice_of d r ≡ choice.Frame class start last end → (d ≡ none) × (r ≡ some (named class start last end))
+          → choice_of d r ≡ Ok (Some (record { class = class; start = start; last = last; end = end })) → (d ≡ none) × (r ≡ some (named class start last end))
       go (some x) r c q = let z : ◌≡◌ {A = ℕ} 0 1 = cc in absurd (omega arith)
       go none none c q = let z : ◌≡◌ {A = ℕ} 0 1 = cc in absurd (omega arith)
       go none (some f) c q =
-          let x : f.class ≡ class = cc in
-          let y : f.start ≡ start = cc in
-          let z : f.last ≡ last = cc in
-          let w : f.end ≡ end = cc in
+          let v = ap choice_values q in
+          let x : f.class ≡ class = ap (λ l. get_or l 1 0) v in
+          let y : f.start ≡ start = ap (λ l. get_or l 2 0) v in
+          let z : f.last ≡ last = ap (λ l. get_or l 3 0) v in
+          let w : f.end ≡ end = ap (λ l. get_or l 4 0) v in
           let n : f.counted ≡ false = ap (λ (g : model.Frame). g.counted) c.1 in
           (refl, λ i. some (record { class = x i; start = y i; last = z i; end = w i; counted = n i }))
 
@@ -109,18 +110,18 @@ module _ (heads : List ℕ) (speed : ℕ) (m : model.Port) (class start last end
       → answer_for (choice_of d begun) ≡ record { number = 0; chosen = 1; class = class; start = start; last = last; end = end } → Begins d
   begins_lent d e = begins d (go (choice_of d begun) e)
     where
-      go : (a : Choice) → answer_for a ≡ record { number = 0; chosen = 1; class = class; start = start; last = last; end = end } → a ≡ choice.Frame class start last end
-      go (choice.Frame k s l e) q =
-          let x : k ≡ class = ap (λ (r : driver.Answer). r.class) q in
-          let y : s ≡ start = ap (λ (r : driver.Answer). r.start) q in
-          let z : l ≡ last = ap (λ (r : driver.Answer). r.last) q in
-          let w : e ≡ end = ap (λ (r : driver.Answer). r.end) q in
-          λ i. choice.Frame (x i) (y i) (z i) (w i)
-      go choice.Nothing q = let z = ap (λ (r : driver.Answer). r.chosen) q in absurd (omega (arith, z))
-      go (choice.Refused r) q = let z = ap (λ (r : driver.Answer). r.chosen) q in absurd (omega (arith, z))
+      go : (a : Choice) → answer_for a ≡ record { number = 0; chosen = 1; class = class; start = start; last = last; end = end } → a ≡ Ok (Some (record { class = class; start = start; last = last; end = end }))
+      go (Ok (Some f)) q =
+          let x : f.class ≡ class = ap (λ (r : driver.Answer). r.class) q in
+          let y : f.start ≡ start = ap (λ (r : driver.Answer). r.start) q in
+          let z : f.last ≡ last = ap (λ (r : driver.Answer). r.last) q in
+          let w : f.end ≡ end = ap (λ (r : driver.Answer). r.end) q in
+          λ i. Ok (Some (record { class = x i; start = y i; last = z i; end = w i }))
+      go (Ok None) q = let z = ap (λ (r : driver.Answer). r.chosen) q in absurd (omega (arith, z))
+      go (Err r) q = let z = ap (λ (r : driver.Answer). r.chosen) q in absurd (omega (arith, z))
 
   -- what the contracts say of the answer
-  transmit-answer : (r : Transmitted) → Transmits heads speed (encode m) r → choice_of (declines (rule.transmit heads speed) (encode m)) begun ≡ r.answer
+  transmit-answer : (r : Acted (std.Option Sending)) → Transmits heads speed (encode m) r → choice_of (declines (rule.transmit heads speed) (encode m)) begun ≡ r.answer
   transmit-answer r k =
       let d : Option Refusal = declines (rule.transmit heads speed) (encode m) in
       let f : Option model.Frame = (rule.performed (rule.transmit heads speed) (decode (encode m))).frame in
@@ -231,7 +232,7 @@ module _ (heads : List ℕ) (speed : ℕ) (m : model.Port) (s : Sound m) (class 
 
 -- any calls on a new port, a transmit that chooses a frame, and any calls of which no act is accepted
 
-module _ (t₀ s₀ : ℕ) (z : t₀ ≤ largest_instant) (r₀ : Acted) (k₀ : Makes t₀ s₀ r₀) (fs : List Event) (l₀ : Kept r₀.port fs)
+module _ (t₀ s₀ : ℕ) (z : t₀ ≤ largest_instant) (r₀ : Acted Unit) (k₀ : Makes t₀ s₀ r₀) (fs : List Event) (l₀ : Kept r₀.port fs)
     (heads : List ℕ) (speed class start last end : ℕ) where
   before : model.Port
   before = (series.run machine (machine_calls (calls_of fs)) (new_port t₀ s₀)).port
@@ -246,7 +247,7 @@ module _ (t₀ s₀ : ℕ) (z : t₀ ≤ largest_instant) (r₀ : Acted) (k₀ :
   unfolding before
   before-sound = sound-run (machine_calls (calls_of fs)) (new_port t₀ s₀) (sound-new t₀ s₀ z)
 
-  pub no_overrun : (r : Transmitted) → Transmits heads speed (outcome r₀.port fs).port r → r.answer ≡ choice.Frame class start last end
+  pub no_overrun : (r : Acted (std.Option Sending)) → Transmits heads speed (outcome r₀.port fs).port r → r.answer ≡ Ok (Some (record { class = class; start = start; last = last; end = end }))
       → (es : List Event) → Kept r.port es → (outcome r.port es).acts ≡ []
       → Undisturbed class start last end (outcome r₀.port fs).port (outcome r.port es)
   no_overrun r k e es l a =
@@ -291,7 +292,7 @@ module _ (a : rule.GateAct) where
   unfolding decode
   counts_of p = refl
 
-  pub gap_act : (p : Port) (f : model.Frame) → (decode p).frame ≡ some f → f.last ≤ p.gates.times.clock → (r : Acted) → Performs (rule.gates a) p r
+  pub gap_act : (p : Port) (f : model.Frame) → (decode p).frame ≡ some f → f.last ≤ p.gates.times.clock → (r : Acted Unit) → Performs (rule.gates a) p r
       → Unharmed p r.port
   unfolding after
   gap_act p f e l r k = subst⁻¹ (Unharmed p) k.port (go (accepted (declines (rule.gates a) p)))

@@ -2,6 +2,8 @@
 -- the end instant alone. The calls are any list, so each part holds after every call. The theorem is `demand_3` of proofs/Demand3.
 -- Assumes nothing.
 use Rattle.std.specs.Prelude.{◌≡◌, true, false, List, [], ◌∷◌, reverse, ℕ, ◌^◌, ◌%◌, ◌≤◌, ◌<◌, get_or}
+use Rattle.std.specs.Prelude.{Ok, Result}
+use Rattle.rule.specs.declared.Refusal.{Refusal}
 use Rattle.rule.specs.Limits.{largest_instant}
 use Rattle.rule.specs.Refusals.{accepted}
 use Rattle.rule.specs.Timetable.{shown}
@@ -12,9 +14,7 @@ use Rattle.rule.specs.Machines.{machine}
 use Rattle.rule.specs.History.{effective, rule_errors, rule_changes}
 use Rattle.rule.specs.Frames.{gate_acts, octet_of, rule_overruns}
 use Rattle.port.specs.declared.Port.{Port}
-use Rattle.port.specs.declared.Looked.{Looked}
-use Rattle.port.specs.declared.Stepped.{Stepped}
-use Rattle.port.specs.declared.Looked.TheVariants as looked
+use Rattle.port.specs.declared.Acted.{Acted}
 use Rattle.port.specs.Record.{well_formed}
 use Rattle.port.specs.Coding.{decode, encode}
 use Rattle.port.specs.Acts.{declines, Looks}
@@ -48,9 +48,9 @@ pub record Demand (t₀ s₀ : ℕ) (cs : List Call) (o : Outcome Port ℕ rule.
   pub changed : o.out ≡ rule_changes s₀ [] t₀ (reverse (effective (gate_acts (reverse o.acts)))) o.port.gates.times.clock
   -- the octet at the end and at each instant after it is the rule's; so says a look, and so shows the record that a further step comes to
   pub shows : (t : ℕ) → o.port.gates.times.clock ≤ t → shown (decode o.port).gates t ≡ octet_of s₀ (reverse o.acts) t
-  pub looks : (t : ℕ) → o.port.gates.times.clock ≤ t → t ≤ largest_instant → (r : Looked) → Looks o.port t r
-      → r ≡ looked.Octet (octet_of s₀ (reverse o.acts) t)
-  pub comes : (goal : ℕ) (at at' os os' : List ℕ) (r : Stepped) → Steps o.port goal at at' os os' r
+  pub looks : (t : ℕ) → o.port.gates.times.clock ≤ t → t ≤ largest_instant → (r : Result ℕ Refusal) → Looks o.port t r
+      → r ≡ Ok (octet_of s₀ (reverse o.acts) t)
+  pub comes : (goal : ℕ) (at at' os os' : List ℕ) (r : Acted ℕ) → Steps o.port goal at at' os os' r
       → shown (decode r.port).gates r.port.gates.times.clock ≡ octet_of s₀ (reverse o.acts) r.port.gates.times.clock
   -- the counts are the rule's, modulo 2^64
   pub errors : o.port.gates.times.errors ≡ rule_errors (gate_acts (reverse o.acts)) % 2 ^ 64

@@ -2,20 +2,15 @@
 -- buffers after a step. Each is allowed by its contract on the record that the call before it left. What such a program has in the end is read off
 -- what was handed back: the last record, the changes in the written places of the buffers, call after call, the acts that were answered done.
 -- Assumes nothing.
-use Rattle.std.specs.Prelude.{Bool, true, false, cond, List, [], ◌∷◌, ◌++◌, map, ℕ, eqb, take}
+use Rattle.std.specs.Prelude.{Bool, true, false, cond, List, [], ◌∷◌, ◌++◌, map, ℕ, eqb, take, Option, Result, Ok, Err}
 use Rattle.rule.specs.Acts as rule
 use Rattle.rule.specs.Machine.{Outcome, Try}
 use Rattle.port.specs.declared.Port.{Port}
 use Rattle.port.specs.declared.Acted.{Acted}
-use Rattle.port.specs.declared.Looked.{Looked}
-use Rattle.port.specs.declared.Stepped.{Stepped}
-use Rattle.rule.specs.declared.Answer.{Answer}
-use Rattle.rule.specs.declared.Answer.TheVariants as answer
+use Rattle.rule.specs.declared.Refusal.{Refusal}
 use Rattle.port.specs.Answers.{written_of}
 use Rattle.port.specs.Acts.{Performs, Looks}
-use Rattle.port.specs.declared.Transmitted.{Transmitted}
-use Rattle.frames.specs.declared.Choice.{Choice}
-use Rattle.frames.specs.declared.Choice.TheVariants as choice
+use Rattle.frames.specs.declared.Sending.{Sending}
 use Rattle.port.specs.Transmit.{Transmits}
 use Rattle.port.specs.Step.{Steps}
 use Rattle.driver.specs.declared.Answer as driver
@@ -24,7 +19,7 @@ use Rattle.history.specs.Calls.{Call, act, lend, step, look, asked, attempted}
 
 -- a step's answer and record, and the buffers after it
 pub record StepOutcome : Type 0 where
-  pub result : Stepped
+  pub result : Acted ℕ
   pub instants : List ℕ
   pub octets : List ℕ
 
@@ -35,11 +30,11 @@ pub record LentOutcome : Type 0 where
 
 -- what a call hands back
 abbrev pub Handed : Call → Type 0
-Handed (act (rule.gates a)) = Acted
-Handed (act (rule.transmit heads speed)) = Transmitted
+Handed (act (rule.gates a)) = Acted Unit
+Handed (act (rule.transmit heads speed)) = Acted (Option Sending)
 Handed (lend heads speed) = LentOutcome
 Handed (step goal instants octets) = StepOutcome
-Handed (look t) = Looked
+Handed (look t) = Result ℕ Refusal
 
 -- its contract, on a record
 abbrev pub Allowed : (c : Call) → Port → Handed c → Type 0
@@ -72,18 +67,13 @@ written (step goal instants octets) r =
 written (look t) r = []
 
 -- whether the answer is no refusal; a transmit that finds nothing is accepted too
-abbrev pub is_done : Answer → Bool
-is_done answer.Done = true
-is_done (answer.Refused r) = false
-
-abbrev pub is_decided : Choice → Bool
-is_decided (choice.Frame class start last end) = true
-is_decided choice.Nothing = true
-is_decided (choice.Refused r) = false
+abbrev pub is_done : {A : Type 0} → Result A Refusal → Bool
+is_done (Ok _) = true
+is_done (Err r) = false
 
 abbrev pub taken : (c : Call) → Handed c → Bool
 taken (act (rule.gates a)) r = is_done r.answer
-taken (act (rule.transmit heads speed)) r = is_decided r.answer
+taken (act (rule.transmit heads speed)) r = is_done r.answer
 taken (lend heads speed) r = eqb r.answer.number 0
 taken (step goal instants octets) r = false
 taken (look t) r = false

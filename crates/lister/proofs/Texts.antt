@@ -1,13 +1,16 @@
 -- Laws of the listing's text: how long a line is; lines put into a page piece by piece; the lines of a step's two columns; lines joined.
 -- Assumes nothing.
-use mathlib.Core.Path.{◌≡◌, refl, ap, ap₂, sym, subst, ◌∙◌}
+use mathlib.Core.Path.{◌≡◌, refl, ap, sym, subst, ◌∙◌}
 use mathlib.Core.List.{List, [], ◌∷◌, ◌++◌, map, append_assoc, append-nil}
-use Prim.Native.Nat.{ℕ, zero, suc, ◌+◌, ◌*◌, ◌≤◌, ◌<◌}
+use Prim.Native.Nat.{ℕ, ◌+◌, ◌*◌, ◌≤◌, ◌<◌, min}
 use native.Mathlib.Nat.{zero-add}
 use native.Mathlib.Numerals.{add-one}
 use native.Mathlib.Omega.{arith}
-use lib.ListN.{length, get_or, take, drop, length-append, get_or-append, get_or-map, length-map}
+use lib.ListN.{length, get_or, take, drop, length-append, length-map}
+use Rattle.std.specs.List.{zip}
+use Rattle.std.proofs.lemmas.Slice.Zip.{length-zip, get_or-zip}
 use lib.Seq.{take-length, take-suc, paste-zero}
+use Rattle.std.proofs.Math.Seq.{take-append_seam}
 use Rattle.rule.specs.declared.Refusal.{Refusal}
 use Rattle.rule.specs.Refusals.{number_of}
 use Rattle.course.specs.Columns.{into, instants_of, octets_of}
@@ -16,7 +19,7 @@ use Rattle.text.specs.Put.{hex_of, Puts}
 use Rattle.text.proofs.Putting.{put-stands, stands-put, put-append}
 use Rattle.text.proofs.Decimals.{decimal-short}
 use Rattle.lister.specs.Lines.{line_end, space, refused_word, start_word, end_word, errors_word, moment_text, change_line, change_lines, refused_line, start_line, end_line}
-use Rattle.lister.specs.Pages.{Fills, column_lines}
+use Rattle.lister.specs.Pages.{Fills}
 
 -- lengths
 
@@ -32,9 +35,9 @@ module _ (t octet : ℕ) (h : t < 18_446_744_073_709_551_616) where
   pub moment-short : length (moment_text t octet) ≤ 23
   moment-short = omega (arith, moment-length, number_short t h)
 
-  pub line-short : length (change_line t octet) ≤ 24
+  pub line_short : length (change_line t octet) ≤ 24
   unfolding change_line
-  line-short = omega (arith, length-append (moment_text t octet) line_end, moment-short)
+  line_short = omega (arith, length-append (moment_text t octet) line_end, moment-short)
 
 -- one piece behind another, where the page has room
 
@@ -88,7 +91,7 @@ module _ (b : List ℕ) (long : length b ≡ 24_576) where
         → Fills (start_line t octet) b y m
     unfolding start_line
     start_fills n x p m y q =
-        let s = line-short t octet h in
+        let s = line_short t octet h in
         put_fills (start_word ++ change_line t octet) b long (omega (arith, s, length-append start_word (change_line t octet))) m y
         (put-append start_word (change_line t octet) 0 b (omega (arith, s)) n x p m y q)
 
@@ -117,75 +120,78 @@ module _ (b : List ℕ) (long : length b ≡ 24_576) where
 pub fills_as : (s t b x : List ℕ) (n : ℕ) → s ≡ t → Fills s b x n → Fills t b x n
 fills_as s t b x n e f = subst (λ y. Fills y b x n) e f
 
--- the lines of two columns, one after the other
-
--- i lines stand at the front of the page
-pub record Lining (instants octets b : List ℕ) (page : List ℕ) (at i : ℕ) : Type 0 where
-  pub put : Puts (column_lines instants octets i) 0 b at page
-  pub next : at ≡ length (column_lines instants octets i)
-  pub short : at ≤ 24 * i
-  pub long : length page ≡ 24_576
-  pub whole : length b ≡ 24_576
-
-module _ (instants octets b : List ℕ) where
-  pub lining_start : length b ≡ 24_576 → Lining instants octets b b 0 0
-  unfolding column_lines
-  lining_start long =
-      record { put = stands-put [] 0 b (omega arith) 0 b (record { next = refl; buffer = paste-zero b 0 []; long = refl }); next = refl; short = omega arith; long = long; whole = long }
-
-  pub lining_more : (page : List ℕ) (at i : ℕ) → Lining instants octets b page at i → i < 1024
-      → length (change_line (get_or instants i 0) (get_or octets i 0)) ≤ 24
-      → (n : ℕ) (x : List ℕ) → Puts (change_line (get_or instants i 0) (get_or octets i 0)) at page n x → Lining instants octets b x n (i + 1)
-  unfolding column_lines
-  lining_more page at i c h s n x p =
-      let l : List ℕ = change_line (get_or instants i 0) (get_or octets i 0) in
-      let z = put-stands l at page (omega (arith, c.short, c.long)) n x p in
-      let q : List ℕ = column_lines instants octets i in
-      subst (λ k. Lining instants octets b x n k) (sym (add-one i)) (record {
-        put = put-append q l 0 b (omega (arith, s, c.short, c.next, c.whole)) at page c.put n x p;
-        next = z.next ∙ omega (arith, c.next, length-append q l);
-        short = omega (arith, z.next, c.short);
-        long = z.long ∙ c.long;
-        whole = c.whole;
-      })
-
-  pub lining_fills : (page : List ℕ) (at i n : ℕ) → Lining instants octets b page at i → i ≡ n → n ≤ 1024 → Fills (column_lines instants octets n) b page at
-  lining_fills page at i n c e h =
-      subst (λ k. Fills (column_lines instants octets k) b page at) e
-      (put_fills (column_lines instants octets i) b c.whole (omega (arith, c.next, c.short)) at page c.put)
-
--- joined
+-- lines joined
 
 pub lines-append : (l r : List (ℕ × ℕ)) → change_lines (l ++ r) ≡ change_lines l ++ change_lines r
 unfolding change_lines
 lines-append [] r = refl
 lines-append (x ∷ l) r = ap (λ q. change_line x.0 x.1 ++ q) (lines-append l r) ∙ sym (append_assoc (change_line x.0 x.1) (change_lines l) (change_lines r))
 
-lines-one : (x : ℕ × ℕ) → change_lines (x ∷ []) ≡ change_line x.0 x.1
+lines-more : (l : List (ℕ × ℕ)) (i : ℕ) → i < length l
+    → change_lines (take (i + 1) l) ≡ change_lines (take i l) ++ change_line (get_or l i (0, 0)).0 (get_or l i (0, 0)).1
 unfolding change_lines
-lines-one x = append-nil (change_line x.0 x.1)
+lines-more l i h =
+    let x : ℕ × ℕ = get_or l i (0, 0) in
+    ap (λ k. change_lines (take k l)) (add-one i) ∙ ap change_lines (take-suc l i (0, 0) h) ∙ lines-append (take i l) (x ∷ [])
+    ∙ ap (λ q. change_lines (take i l) ++ q) (append-nil (change_line x.0 x.1))
 
--- a step's columns, place by place
-column_at : (f : ℕ × ℕ → ℕ) (l : List (ℕ × ℕ)) (b : List ℕ) (k : ℕ) → f (0, 0) ≡ 0 → k < length l → get_or (into (map f l) b) k 0 ≡ f (get_or l k (0, 0))
+-- the lines of the first i changes of two columns stand at the front of the page
+pub record Lining (instants octets b : List ℕ) (page : List ℕ) (at i : ℕ) : Type 0 where
+  pub put : Puts (change_lines (take i (zip instants octets))) 0 b at page
+  pub next : at ≡ length (change_lines (take i (zip instants octets)))
+  pub short : at ≤ 24 * i
+  pub long : length page ≡ 24_576
+  pub whole : length b ≡ 24_576
+
+module _ {instants octets b : List ℕ} where
+  pub lining_start : length b ≡ 24_576 → Lining instants octets b b 0 0
+  unfolding change_lines
+  lining_start long =
+      record { put = stands-put [] 0 b (omega arith) 0 b (record { next = refl; buffer = paste-zero b 0 []; long = refl }); next = refl; short = omega arith; long = long; whole = long }
+
+  pub lining_more : {page : List ℕ} {at i : ℕ} → Lining instants octets b page at i → i < length instants → i < length octets → i < 1024
+      → {t octet : ℕ} → ((d : ℕ) → t ≡ get_or instants i d) → ((d : ℕ) → octet ≡ get_or octets i d) → length (change_line t octet) ≤ 24
+      → {n : ℕ} {x : List ℕ} → Puts (change_line t octet) at page n x → {j : ℕ} → j ≡ i + 1 → Lining instants octets b x n j
+  lining_more {page} {at} {i} c h k few {t} {octet} f g s {n} {x} p v =
+      let l : List (ℕ × ℕ) = zip instants octets in
+      let q : List ℕ = change_lines (take i l) in
+      let z = put-stands (change_line t octet) at page (omega (arith, c.short, c.long)) n x p in
+      let e : q ++ change_line t octet ≡ change_lines (take (i + 1) l) =
+      (λ y. q ++ change_line (f 0 y) (g 0 y)) ∙ ap (λ (y : ℕ × ℕ). q ++ change_line y.0 y.1) (sym (get_or-zip instants octets i (0, 0) h k))
+      ∙ sym (lines-more l i (omega (arith, length-zip instants octets))) in
+      let w : n ≡ length (q ++ change_line t octet) = z.next ∙ omega (arith, c.next, length-append q (change_line t octet)) in
+      subst (λ y. Lining instants octets b x n y) (sym v) (record {
+        put =
+            subst (λ y. Puts y 0 b n x) e
+            (put-append q (change_line t octet) 0 b (omega (arith, s, c.short, c.next, c.whole)) at page c.put n x p);
+        next = w ∙ ap length e;
+        short = omega (arith, z.next, s, c.short);
+        long = z.long ∙ c.long;
+        whole = c.whole;
+      })
+
+  pub lining_fills : {page : List ℕ} {at i : ℕ} → Lining instants octets b page at i → i ≡ min (length instants) (length octets) → i ≤ 1024
+      → Fills (change_lines (zip instants octets)) b page at
+  lining_fills {page} {at} {i} c e h =
+      let l : List (ℕ × ℕ) = zip instants octets in
+      subst (λ k. Fills (change_lines k) b page at) (ap (λ k. take k l) (e ∙ sym (length-zip instants octets)) ∙ take-length l)
+      (put_fills (change_lines (take i l)) b c.whole (omega (arith, c.next, c.short)) at page c.put)
+
+-- the changes that two columns begin with
+
+zip-map : (l : List (ℕ × ℕ)) → zip (instants_of l) (octets_of l) ≡ l
+zip-map [] = refl
+zip-map (x ∷ l) = ap (λ r. x ∷ r) (zip-map l)
+
+into-take : (f : ℕ × ℕ → ℕ) (l : List (ℕ × ℕ)) (b : List ℕ) → take (length l) (into (map f l) b) ≡ map f l
 unfolding into
-column_at f l b k e h =
-    get_or-append (map f l) (drop (length (map f l)) b) 0 k (subst (λ n. k < n) (sym (length-map l f)) h)
-    ∙ ap (λ d. get_or (map f l) k d) (sym e) ∙ get_or-map f l k (0, 0)
+into-take f l b =
+    ap (λ n. take n (map f l ++ drop (length (map f l)) b)) (sym (length-map l f)) ∙ take-append_seam (map f l) (drop (length (map f l)) b)
 
-module _ (l : List (ℕ × ℕ)) (a b : List ℕ) where
-  columns_taken : (k : ℕ) → k ≤ length l → column_lines (into (instants_of l) a) (into (octets_of l) b) k ≡ change_lines (take k l)
-  unfolding column_lines change_lines
-  columns_taken zero h = refl
-  columns_taken (suc k) h =
-      let x : ℕ × ℕ = get_or l k (0, 0) in
-      ap₂ ◌++◌ (columns_taken k (omega arith))
-      (ap₂ change_line (column_at (λ (y : ℕ × ℕ). y.0) l a k refl (omega arith)) (column_at (λ (y : ℕ × ℕ). y.1) l b k refl (omega arith)) ∙ sym (lines-one x))
-      ∙ sym (lines-append (take k l) (x ∷ [])) ∙ ap change_lines (sym (take-suc l k (0, 0) (omega arith)))
-
-  pub columns_lines : column_lines (into (instants_of l) a) (into (octets_of l) b) (length l) ≡ change_lines l
-  columns_lines = columns_taken (length l) (omega arith) ∙ ap change_lines (take-length l)
+pub zip-columns : (l : List (ℕ × ℕ)) (a b : List ℕ) → zip (take (length l) (into (instants_of l) a)) (take (length l) (into (octets_of l) b)) ≡ l
+zip-columns l a b = (λ i. zip (into-take (λ (x : ℕ × ℕ). x.0) l a i) (into-take (λ (x : ℕ × ℕ). x.1) l b i)) ∙ zip-map l
 
 -- a page's text is no longer than the page
-pub fills_few : (s b x : List ℕ) (n : ℕ) → Fills s b x n → n ≤ 24_576
+pub fills_few : {s b x : List ℕ} {n : ℕ} → Fills s b x n → n ≤ 24_576
 unfolding into
-fills_few s b x n f = omega (arith, f.count, f.long, ap length f.begins, length-append s (drop (length s) b))
+fills_few {s} {b} f = omega (arith, f.count, f.long, ap length f.begins, length-append s (drop (length s) b))

@@ -4,9 +4,9 @@
 use mathlib.Core.Path.{◌≡◌, sym, ◌∙◌}
 use mathlib.Core.List.{List}
 use Prim.Native.Nat.{ℕ}
-use Rattle.lister.specs.declared.Listed.TheVariants.{Whole}
+use Rattle.std.specs.Prelude.{Ok}
 use Rattle.lister.specs.Lines.{listing}
 use Rattle.lister.specs.Pages.{Lists}
 
-pub list_unique : (s : List ℕ) (m n : ℕ) → Lists (listing s) (Whole m) → Lists (listing s) (Whole n) → m ≡ n
+pub list_unique : (s : List ℕ) (m n : ℕ) → Lists (listing s) (Ok m) → Lists (listing s) (Ok n) → m ≡ n
 list_unique s m n p q = p ∙ sym q

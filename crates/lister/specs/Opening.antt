@@ -2,11 +2,10 @@
 -- switches it on, submits and steps to end; the first refusal met in that order is the sheet's, and without one there is a port after the submission and
 -- an end of the span. 15 comes first, then the list's own, then start 9, cycle 8, base 9, end 9, 10, 11 (proofs/Order).
 -- Assumes nothing.
-use Rattle.std.specs.Prelude.{Bool, List, ◌++◌, ℕ, drop}
+use Rattle.std.specs.Prelude.{Bool, List, ◌++◌, ℕ, drop, Result, Ok, Err}
 use Rattle.std.proofs.Math.Option.{Option, none, some}
 use Rattle.rule.specs.Limits.{largest_step}
 use Rattle.rule.specs.declared.Refusal.{Refusal}
-use Rattle.rule.specs.declared.Refusal.TheVariants.{MalformedSheet}
 use Rattle.rule.specs.Refusals.{first_of}
 use Rattle.rule.specs.Entries.{Entry}
 use Rattle.rule.specs.Port.{Port, new_port}
@@ -15,8 +14,6 @@ use Rattle.rule.specs.Orders.{act_order, step_order, new_order}
 use Rattle.gatelist.specs.Coding.{list_from}
 use Rattle.octets.specs.Octets.{entry_at, read_refusal}
 use Rattle.sheet.specs.declared.Sheet.{Sheet}
-use Rattle.sheet.specs.declared.SheetRead.{SheetRead}
-use Rattle.sheet.specs.declared.SheetRead.TheVariants as sheet
 use Rattle.sheet.specs.Sheet.{read_sheet}
 
 -- the octets of a sheet's list, which go to the sheet's end, and the entries in them
@@ -70,9 +67,9 @@ unless_declined (some r) x = refused r.0
 unfoldable pub opening_with : Sheet → List Entry → Opening
 opening_with h l = unless_refused (first_of (calls_order h l)) (spans (submitted_port h l) h.end)
 
-abbrev pub opening_of : List ℕ → SheetRead → Opening
-opening_of s sheet.Malformed = refused MalformedSheet
-opening_of s (sheet.Good h) = unless_declined (read_refusal (list_octets s h) h.length) (opening_with h (entries_of s h))
+abbrev pub opening_of : List ℕ → Result Sheet Refusal → Opening
+opening_of s (Err r) = refused r
+opening_of s (Ok h) = unless_declined (read_refusal (list_octets s h) h.length) (opening_with h (entries_of s h))
 
 unfoldable pub opening : List ℕ → Opening
 opening s = opening_of s (read_sheet s)

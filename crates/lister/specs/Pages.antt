@@ -1,25 +1,17 @@
 -- What the listing's parts promise each other: an opened sheet; a page filled with lines; a stride of the span, and all strides joined. Private to the crate but
 -- for `Lists`.
 -- Assumes nothing.
-use Rattle.std.specs.Prelude.{◌≡◌, true, List, [], ◌++◌, ℕ, zero, suc, ◌-◌, ◌≤◌, ◌<◌, length, get_or}
-use Rattle.rule.specs.declared.Answer.{Answer}
-use Rattle.rule.specs.declared.Answer.TheVariants as answer
-use Rattle.rule.specs.Refusals.{accepted}
-use Rattle.rule.specs.Port as model
+use Rattle.std.specs.Prelude.{◌≡◌, List, ℕ, ◌-◌, ◌≤◌, ◌<◌, length, Result, Ok, Err, IfOk}
+use Rattle.rule.specs.declared.Refusal.{Refusal}
 use Rattle.rule.specs.Machine.{ticks, log}
 use Rattle.rule.specs.Machines.{machine}
 use Rattle.port.specs.declared.Port.{Port}
 use Rattle.port.specs.Coding.{decode, encode}
-use Rattle.port.specs.Checks.{Fine}
 use Rattle.course.specs.Columns.{into}
-use Rattle.port.specs.Step.{step_declines}
-use Rattle.lister.specs.declared.Listed.{Listed}
-use Rattle.lister.specs.declared.Listed.TheVariants.{Whole, Cut}
-use Rattle.lister.specs.declared.opening.Opened.{Opened}
-use Rattle.lister.specs.declared.strides.StrideEnd.{StrideEnd}
-use Rattle.lister.specs.declared.strides.SpanEnd.{SpanEnd}
+use Rattle.lister.specs.declared.Cut.{Cut}
+use Rattle.lister.specs.declared.span.Span.{Span}
 use Rattle.lister.specs.Opening.{Opening, refused, spans}
-use Rattle.lister.specs.Lines.{change_line, change_lines}
+use Rattle.lister.specs.Lines.{change_lines}
 
 -- where a record stands, and its ConfigChangeError
 abbrev pub clock_of : Port → ℕ
@@ -28,30 +20,19 @@ clock_of p = p.gates.times.clock
 abbrev pub errors_of : Port → ℕ
 errors_of p = p.gates.times.errors
 
--- a sheet is opened: why there is no port, or a port that can go to the end of its span
+-- what a sheet is opened as: why there is no port, or a port that can go to the end of its span, as its type says
+abbrev pub opened_as : Result Span Refusal → Opening
+opened_as (Ok s) = spans (decode s.port) s.end
+opened_as (Err r) = refused r
 
-abbrev pub opened_as : Answer → model.Port → ℕ → Opening
-opened_as answer.Done p end = spans p end
-opened_as (answer.Refused r) p end = refused r
-
-pub record Ready (p : Port) (end : ℕ) : Type 0 where
-  pub fine : Fine p
-  pub goal : accepted (step_declines end p) ≡ true
-
-pub record Opens (x : Opening) (r : Opened) : Type 0 where
-  pub is : opened_as r.answer (decode r.port) r.end ≡ x
-  pub ready : r.answer ≡ answer.Done → Ready r.port r.end
+pub record Opens (x : Opening) (r : Result Span Refusal) : Type 0 where
+  pub is : opened_as r ≡ x
 
 -- a page of 24,576 octets begins with a text, and the rest of it stays; n counts the text's octets
 pub record Fills (text page page' : List ℕ) (n : ℕ) : Type 0 where
   pub count : n ≡ length text
   pub begins : page' ≡ into text page
   pub long : length page' ≡ 24_576
-
--- the lines of the first n changes of two columns
-unfoldable pub column_lines : List ℕ → List ℕ → ℕ → List ℕ
-column_lines instants octets zero = []
-column_lines instants octets (suc n) = column_lines instants octets n ++ change_line (get_or instants n 0) (get_or octets n 0)
 
 -- what k instants bring: the record after them, and the lines of their changes
 abbrev pub goes_on : Port → ℕ → Port
@@ -60,30 +41,27 @@ goes_on p k = encode (ticks machine k (decode p))
 abbrev pub lines_of : Port → ℕ → List ℕ
 lines_of p k = change_lines (log machine k (decode p))
 
--- a stride comes nearer to the end, and its page has the lines of its changes
-pub record OneStride (p : Port) (end : ℕ) (page page' : List ℕ) (r : StrideEnd) : Type 0 where
-  pub onward : clock_of p < clock_of r.port
-  pub within : clock_of r.port ≤ end
-  pub port : r.port ≡ goes_on p (clock_of r.port - clock_of p)
-  pub lines : Fills (lines_of p (clock_of r.port - clock_of p)) page page' r.used
+-- a stride comes nearer to the end, which stays; its page has the lines of its changes, in so many octets
+pub record OneStride (s : Span) (page page' : List ℕ) (r : Span × ℕ) : Type 0 where
+  pub onward : clock_of s.port < clock_of r.0.port
+  pub within : clock_of r.0.port ≤ s.end
+  pub end : r.0.end ≡ s.end
+  pub port : r.0.port ≡ goes_on s.port (clock_of r.0.port - clock_of s.port)
+  pub lines : Fills (lines_of s.port (clock_of r.0.port - clock_of s.port)) page page' r.1
 
--- the strides up to the clock of q: the changes of the whole way, and how many octets their lines have
-pub record ListedUpTo (p q : Port) (end octets : ℕ) : Type 0 where
-  pub ready : Ready p end
-  pub from : clock_of p ≤ clock_of q
-  pub upto : clock_of q ≤ end
-  pub port : q ≡ goes_on p (clock_of q - clock_of p)
-  pub count : octets ≡ length (lines_of p (clock_of q - clock_of p))
+-- the strides up to the clock of t: the changes of the whole way, and how many octets their lines have
+pub record ListedUpTo (s t : Span) (octets : ℕ) : Type 0 where
+  pub from : clock_of s.port ≤ clock_of t.port
+  pub end : t.end ≡ s.end
+  pub port : t.port ≡ goes_on s.port (clock_of t.port - clock_of s.port)
+  pub count : octets ≡ length (lines_of s.port (clock_of t.port - clock_of s.port))
 
-pub record WholeSpan (p : Port) (end : ℕ) (r : SpanEnd) : Type 0 where
-  pub few : r.octets ≤ 24_000_000_000
-  pub port : r.whole ≡ true → r.port ≡ goes_on p (end - clock_of p)
-  pub count : r.whole ≡ true → r.octets ≡ length (lines_of p (end - clock_of p))
+-- all strides: the port at the end, and how many octets the lines of all changes have
+pub record WholeSpan (s : Span) (r : Span × ℕ) : Type 0 where
+  pub few : r.1 ≤ 24_000_000_000
+  pub port : r.0.port ≡ goes_on s.port (s.end - clock_of s.port)
+  pub count : r.1 ≡ length (lines_of s.port (s.end - clock_of s.port))
 
 -- a listing that standard output took has so many octets as its text; of one that was cut nothing is said
-abbrev pub counted : Listed → ℕ → ℕ
-counted (Whole n) other = n
-counted Cut other = other
-
-abbrev pub Lists : List ℕ → Listed → Type 0
-Lists text r = counted r (length text) ≡ length text
+abbrev pub Lists : List ℕ → Result ℕ Cut → Type 0
+Lists text r = IfOk r (λ n. n ≡ length text)

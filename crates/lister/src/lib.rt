@@ -3,67 +3,64 @@
 // are filled by proved functions and handed to standard output whole.
 #![tactic(auto)]
 
-ghost use Rattle.std.specs.Prelude.{◌-◌};
+ghost use Rattle.std.specs.Prelude.{◌≡◌, ◌-◌, IfOk};
 ghost use Rattle.port.specs.Coding.{decode};
 ghost use Rattle.lister.specs.Lines.{listing, refused_line, span_lines};
-ghost use Rattle.lister.specs.Pages.{Lists, Ready, clock_of};
+ghost use Rattle.lister.specs.Pages.{Lists, clock_of};
 
-use port::Port;
-use rule::{Answer, Refusal};
+use crate::lines::PAGE;
+use crate::span::Span;
+use rule::Refusal;
 
 mod lines;
 mod opening;
+mod span;
 mod strides;
 
-// What became of a listing: all of it was taken by standard output, so many octets; or a write failed, and it is cut.
-#[derive(Clone, Copy)]
-pub enum Listed {
-    Whole(u64),
-    Cut,
+// A write to standard output failed, and the listing is cut.
+#[derive(Clone, Copy, Debug, PartialEq, Eq)]
+pub struct Cut;
+
+// Writes the first n octets of a page to standard output, and answers how many.
+fn written(page: &[u8; PAGE], n: usize) -> Result<u64, Cut>
+    ensures { IfOk result (λ m. m ≡ n) }
+{
+    if text::show(page, n) {
+        Ok(n as u64)
+    } else {
+        Err(Cut)
+    }
 }
 
 // Writes the listing of a refusal.
-fn list_refusal(r: Refusal) -> Listed
+fn list_refusal(r: Refusal) -> Result<u64, Cut>
     ensures { Lists (refused_line r) result }
 {
-    let mut page = [0u8; 24576];
+    let mut page = [0; PAGE];
     let n = lines::put_refused(&mut page, r);
-    if !text::show(&page, n) {
-        return Listed::Cut;
-    }
-    Listed::Whole(n as u64)
+    written(&page, n)
 }
 
 // Writes the listing of a port to the end of its span.
-fn list_port(p: Port, end: u64) -> Listed
-    requires { Ready p end }
-    ensures { Lists (span_lines (end - clock_of p) (decode p)) result }
+fn list_port(span: Span) -> Result<u64, Cut>
+    ensures { Lists (span_lines (span.end - clock_of span.port) (decode span.port)) result }
 {
-    let mut page = [0u8; 24576];
-    let first = lines::put_start(&mut page, p);
-    if !text::show(&page, first) {
-        return Listed::Cut;
-    }
-    let w = strides::strides(p, end, &mut page);
-    if !w.whole {
-        return Listed::Cut;
-    }
-    let q = w.port;
-    let last = lines::put_end(&mut page, q);
-    if !text::show(&page, last) {
-        return Listed::Cut;
-    }
-    Listed::Whole(first as u64 + w.octets + last as u64)
+    let mut page = [0; PAGE];
+    let n = lines::put_start(&mut page, span);
+    let first = written(&page, n)?;
+    let (ended, octets) = strides::strides(span, &mut page)?;
+    let n = lines::put_end(&mut page, ended);
+    let last = written(&page, n)?;
+    Ok(first + octets + last)
 }
 
-// Writes the listing of a sheet to standard output.
-pub fn list(s: &[u8]) -> Listed
+// Writes the listing of a sheet to standard output, and answers how many octets it has. What is cut may have been written in part.
+#[tactic(auto, using(crate::proofs::Striding::list_refused, crate::proofs::Striding::list_spanned))]
+pub fn list(s: &[u8]) -> Result<u64, Cut>
     ensures { Lists (listing s.now) result }
 {
-    let o = opening::from_sheet(s);
-    let a = o.answer;
-    match a {
-        Answer::Refused(r) => list_refusal(r),
-        Answer::Done => list_port(o.port, o.end),
+    match opening::from_sheet(s) {
+        Ok(span) => list_port(span),
+        Err(r) => list_refusal(r),
     }
 }

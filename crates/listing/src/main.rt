@@ -2,17 +2,15 @@
 // cannot be read nothing is listed; what went wrong is said on standard error.
 #![tactic(auto)]
 
-use lister::Listed;
-use text::Input;
+use lister::Cut;
 
 fn main(rt: HostRuntime) {
     let mut octets = [0u8; 1025];
-    let Input::Octets(n) = text::take_all(&rt, &mut octets) else {
+    let Ok(n) = text::take_all(&rt, &mut octets) else {
         text::complain(b"listing: standard input cannot be read");
         return;
     };
-    let done = lister::list(text::part(&octets, 0, n));
-    if let Listed::Cut = done {
+    if let Err(Cut) = lister::list(&octets[..n]) {
         text::complain(b"listing: standard output cannot be written");
     }
 }

@@ -10,14 +10,14 @@ use borrow.Author.Tests.{lt-ltb, le-ltb, ne_eqb, ltb-true, ltb-false}
 use lib.Dec.{ltb}
 use lib.ListN.{length, drop, take, get_or}
 use lib.Seq.{drop-append_seam, get_or-drop}
-use Rattle.numbers.specs.declared.Number.TheVariants.{Read}
-use Rattle.numbers.specs.Groups.{octets_of, joined, groups_at, up_to, read_number}
-use Rattle.numbers.proofs.Reading.{joined-read, groups_next, kept_read, kept_small}
+use Rattle.std.specs.Prelude.{Some}
+use Rattle.numbers.specs.Groups.{Number, octets_of, joined, groups_at, up_to, read_number}
+use Rattle.numbers.proofs.Reading.{some_same, joined-read, groups_next, kept_read, kept_small}
 use Rattle.numbers.proofs.Writing.{octets-last, octets-cons}
 
 -- what is written is read back
 
-at_last : (n at : ℕ) (s : List ℕ) → n < 128 → groups_at (n ∷ s) at ≡ Read n (at + 1)
+at_last : (n at : ℕ) (s : List ℕ) → n < 128 → groups_at (n ∷ s) at ≡ Some (n, at + 1)
 unfolding groups_at
 at_last n at s h = simp (lt-ltb _ _ h)
 
@@ -25,31 +25,31 @@ at_more : (b at : ℕ) (s : List ℕ) → 128 ≤ b → groups_at (b ∷ s) at �
 unfolding groups_at
 at_more b at s h = simp (le-ltb _ _ h)
 
-joined-some : (b v n r : ℕ) → (v ≡ 0 → ⊥) → 128 * v + (b - 128) ≡ r → joined b (Read v n) ≡ Read r n
+joined-some : (b v n r : ℕ) → (v ≡ 0 → ⊥) → 128 * v + (b - 128) ≡ r → joined b (Some (v, n)) ≡ Some (r, n)
 unfolding joined
-joined-some b v n r h e = rw (ne_eqb _ _ h) (ap (λ x. Read x n) e)
+joined-some b v n r h e = rw (ne_eqb _ _ h) (ap (λ x. Some (x, n)) e)
 
 -- by recursion on a bound k
-written_read : (k n at : ℕ) (s : List ℕ) → n < k → groups_at (octets_of n ++ s) at ≡ Read n (at + length (octets_of n))
+written_read : (k n at : ℕ) (s : List ℕ) → n < k → groups_at (octets_of n ++ s) at ≡ Some (n, at + length (octets_of n))
 written_read zero n at s h = absurd (omega arith)
 written_read (suc k) n at s h = go (ltb n 128) refl (written_read k (n / 128) (at + 1) s)
   where
     go : (x : Bool) → ltb n 128 ≡ x
-        → (n / 128 < k → groups_at (octets_of (n / 128) ++ s) (at + 1) ≡ Read (n / 128) (at + 1 + length (octets_of (n / 128))))
-        → groups_at (octets_of n ++ s) at ≡ Read n (at + length (octets_of n))
+        → (n / 128 < k → groups_at (octets_of (n / 128) ++ s) (at + 1) ≡ Some (n / 128, at + 1 + length (octets_of (n / 128))))
+        → groups_at (octets_of n ++ s) at ≡ Some (n, at + length (octets_of n))
     go true p ih =
         let q : n < 128 = ltb-true n 128 p in
-        ap (λ l. groups_at (l ++ s) at) (octets-last n q) ∙ at_last n at s q ∙ ap (λ l. Read n (at + length l)) (sym (octets-last n q))
+        ap (λ l. groups_at (l ++ s) at) (octets-last n q) ∙ at_last n at s q ∙ ap (λ l. Some (n, at + length l)) (sym (octets-last n q))
     go false p ih =
         let q : 128 ≤ n = ltb-false n 128 p in
         let e : at + 1 + length (octets_of (n / 128)) ≡ at + suc (length (octets_of (n / 128))) = omega arith in
         ap (λ l. groups_at (l ++ s) at) (octets-cons n q) ∙ at_more (128 + n % 128) at (octets_of (n / 128) ++ s) (omega arith)
         ∙ ap (joined (128 + n % 128)) (ih (omega arith)) ∙ joined-some (128 + n % 128) (n / 128) _ n (omega arith) (omega arith)
-        ∙ ap (Read n) (e ∙ ap (λ l. at + length l) (sym (octets-cons n q)))
+        ∙ ap (λ m. Some (n, m)) (e ∙ ap (λ l. at + length l) (sym (octets-cons n q)))
 
 -- a number of the width, written between any octets, is read there with the place behind it
 pub read-written : (width n : ℕ) (before after : List ℕ) → n ≤ 2 ^ width - 1
-    → read_number width (before ++ (octets_of n ++ after)) (length before) ≡ Read n (length before + length (octets_of n))
+    → read_number width (before ++ (octets_of n ++ after)) (length before) ≡ Some (n, length before + length (octets_of n))
 read-written width n before after h =
     ap (λ l. up_to (2 ^ width - 1) (groups_at l (length before))) (drop-append_seam before (octets_of n ++ after))
     ∙ ap (up_to (2 ^ width - 1)) (written_read (suc n) n (length before) after (omega arith)) ∙ sym (kept_small (2 ^ width - 1) n _ h)
@@ -73,17 +73,16 @@ one_more at n h = omega arith
 one_only : (at n : ℕ) → at + 1 ≡ n → n - at ≡ 1
 one_only at n h = omega arith
 
-read_groups : (s : List ℕ) → ((i : ℕ) → get_or s i 0 < 256) → (at v n : ℕ) → groups_at s at ≡ Read v n → take (n - at) s ≡ octets_of v
+read_groups : (s : List ℕ) → ((i : ℕ) → get_or s i 0 < 256) → (at v n : ℕ) → groups_at s at ≡ Some (v, n) → take (n - at) s ≡ octets_of v
 unfolding groups_at
 read_groups [] bytes at v n e = let z : ◌≡◌ {A = ℕ} 0 1 = cc in absurd (omega arith)
 read_groups (b ∷ s) bytes at v n e = go (ltb b 128) refl e (λ w. read_groups s (λ i. bytes (suc i)) (at + 1) w n)
   where
-    go : (x : Bool) → ltb b 128 ≡ x → cond x (Read b (at + 1)) (joined b (groups_at s (at + 1))) ≡ Read v n
-        → ((w : ℕ) → groups_at s (at + 1) ≡ Read w n → take (n - (at + 1)) s ≡ octets_of w) → take (n - at) (b ∷ s) ≡ octets_of v
+    go : (x : Bool) → ltb b 128 ≡ x → cond {A = Number} x (Some (b, at + 1)) (joined b (groups_at s (at + 1))) ≡ Some (v, n)
+        → ((w : ℕ) → groups_at s (at + 1) ≡ Some (w, n) → take (n - (at + 1)) s ≡ octets_of w) → take (n - at) (b ∷ s) ≡ octets_of v
     go true p q ih =
-        let m : at + 1 ≡ n = cc in
-        let u : b ≡ v = cc in
-        ap (λ k. take k (b ∷ s)) (one_only at n m) ∙ ap (λ y. y ∷ []) u ∙ sym (octets-last v (subst (λ y. y < 128) u (ltb-true b 128 p)))
+        let z = some_same (b, at + 1) (v, n) q in
+        ap (λ k. take k (b ∷ s)) (one_only at n z.1) ∙ ap (λ y. y ∷ []) z.0 ∙ sym (octets-last v (subst (λ y. y < 128) z.0 (ltb-true b 128 p)))
     go false p q ih =
         let l : 128 ≤ b = ltb-false b 128 p in
         let h : b < 256 = bytes 0 in
@@ -94,7 +93,7 @@ read_groups (b ∷ s) bytes at v n e = go (ltb b 128) refl e (λ w. read_groups 
         ap (λ k. take k (b ∷ s)) (one_more at n (omega arith)) ∙ ap (λ t. b ∷ t) (ih j.rest j.read)
         ∙ sym (octets-cons v (large b v j.rest l j.some j.value) ∙ ap (λ y. y ∷ octets_of (v / 128)) r ∙ ap (λ y. b ∷ octets_of y) d)
 
-pub written_again : (width : ℕ) (s : List ℕ) (at v n : ℕ) → ((i : ℕ) → get_or s i 0 < 256) → read_number width s at ≡ Read v n
+pub written_again : (width : ℕ) (s : List ℕ) (at v n : ℕ) → ((i : ℕ) → get_or s i 0 < 256) → read_number width s at ≡ Some (v, n)
     → take (n - at) (drop at s) ≡ octets_of v
 written_again width s at v n bytes e =
     read_groups (drop at s) (λ i. subst (λ x. x < 256) (sym (get_or-drop at s i 0)) (bytes (at + i))) at v n

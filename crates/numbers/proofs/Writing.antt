@@ -1,4 +1,4 @@
--- Laws of writing. In order: the groups of a number one after the other; how many there are; the buffer as it is filled; the whole writing.
+-- Laws of writing. In order: the groups of a number one after the other; how many there are; the buffer as it is filled.
 -- Assumes nothing.
 use mathlib.Core.Path.{◌≡◌, refl, ap, sym, ◌∙◌}
 use mathlib.Core.List.{List, [], ◌∷◌, ◌++◌, append_assoc}
@@ -10,9 +10,7 @@ use lib.Dec.{ltb}
 use mathlib.Core.Bool.{Bool, true, false}
 use lib.ListN.{length, drop, take, set, length-set, length-append}
 use lib.Seq.{take-suc-set, drop-set-lt, drop-drop, set_split, length-take-le}
-use Rattle.numbers.specs.declared.Written.TheVariants.{Octets, Short}
 use Rattle.numbers.specs.Groups.{groups_of, octets_of}
-use Rattle.numbers.specs.Writing.{write_number, writing_of}
 
 -- the groups of a number one after the other
 
@@ -46,18 +44,18 @@ octets-cons n h = groups_cons n n h ∙ ap (λ l. (128 + n % 128) ∷ l) (groups
 
 -- how many there are
 
-pub size-last : (n : ℕ) → n < 128 → length (octets_of n) ≡ 1
-size-last n h = ap length (octets-last n h)
+pub size_last : (n : ℕ) → n < 128 → length (octets_of n) ≡ 1
+size_last n h = ap length (octets-last n h)
 
-pub size-more : (n k : ℕ) → 128 ≤ n → k + 1 + length (octets_of (n / 128)) ≡ k + length (octets_of n)
-size-more n k h = let e : length (octets_of n) ≡ suc (length (octets_of (n / 128))) = ap length (octets-cons n h) in omega arith
+pub size_more : (n : ℕ) → 128 ≤ n → length (octets_of n) ≡ length (octets_of (n / 128)) + 1
+size_more n h = let e : length (octets_of n) ≡ suc (length (octets_of (n / 128))) = ap length (octets-cons n h) in omega arith
 
 pub size-some : (n : ℕ) → 1 ≤ length (octets_of n)
 size-some n = go (ltb n 128) refl
   where
     go : (x : Bool) → ltb n 128 ≡ x → 1 ≤ length (octets_of n)
-    go true p = let e = size-last n (ltb-true n 128 p) in omega arith
-    go false p = let e = size-more n 0 (ltb-false n 128 p) in omega arith
+    go true p = let e = size_last n (ltb-true n 128 p) in omega arith
+    go false p = let e = size_more n (ltb-false n 128 p) in omega arith
 
 -- the buffer as it is filled: i octets are written, and the groups of the rest are still to come
 
@@ -74,16 +72,16 @@ module _ (n : ℕ) (out₀ out : List ℕ) (rest i : ℕ) (f : Filling n out₀ 
   pub filling_room : i < length out
   filling_room = let e = size-some rest in omega arith
 
-  pub filling_more : 128 ≤ rest → (a : ℕ) → a ≡ 128 + rest % 128 → Filling n out₀ (set out i a) (rest / 128) (i + 1)
-  filling_more h a q = record {
+  pub filling_more : 128 ≤ rest → Filling n out₀ (set out i (128 + rest % 128)) (rest / 128) (i + 1)
+  filling_more h = let a : ℕ = 128 + rest % 128 in record {
     front =
         ap (λ l. l ++ octets_of (rest / 128)) (ap (λ k. take k (set out i a)) (add-one i) ∙ take-suc-set out i a filling_room)
         ∙ append_assoc (take i out) (a ∷ []) (octets_of (rest / 128))
-        ∙ ap (λ b. take i out ++ b ∷ octets_of (rest / 128)) q ∙ ap (λ l. take i out ++ l) (sym (octets-cons rest h)) ∙ f.front;
+        ∙ ap (λ l. take i out ++ l) (sym (octets-cons rest h)) ∙ f.front;
     back =
         drop-set-lt (i + 1) out i a (omega arith) ∙ sym (drop-drop 1 i out) ∙ ap (λ l. drop 1 l) f.back ∙ drop-drop 1 i out₀;
     long = length-set out i a ∙ f.long;
-    room = let e = size-more rest i h in omega arith;
+    room = let e = size_more rest h in omega arith;
   }
 
   filling_back : drop (suc i) out ≡ drop (suc i) out₀
@@ -95,15 +93,3 @@ module _ (n : ℕ) (out₀ out : List ℕ) (rest i : ℕ) (f : Filling n out₀ 
       let k : length (octets_of n) ≡ suc i = sym (ap length e) ∙ simp length-append (omega (arith, length-take-le i out (omega arith))) in
       set_split out i rest filling_room ∙ sym (append_assoc (take i out) (rest ∷ []) (drop (suc i) out)) ∙ ap (λ l. l ++ drop (suc i) out) e
       ∙ ap (λ l. octets_of n ++ l) (filling_back ∙ ap (λ j. drop j out₀) (sym k))
-
--- the whole writing
-
-pub write-short : (n : ℕ) (b : List ℕ) (k : ℕ) → k ≡ length (octets_of n) → length b < k → writing_of Short b ≡ write_number n b
-unfolding write_number
-write-short n b k e h = simp (lt-ltb (length b) (length (octets_of n)) (omega arith))
-
-pub write_done : (n : ℕ) (b : List ℕ) (k : ℕ) → k ≡ length (octets_of n) → k ≤ length b → (out : List ℕ) → out ≡ octets_of n ++ drop (length (octets_of n)) b
-    → writing_of (Octets k) out ≡ write_number n b
-unfolding write_number
-write_done n b k e h out q =
-    (λ j. record { number = 0; count = e j; buffer = q j }) ∙ simp (le-ltb (length b) (length (octets_of n)) (omega arith))

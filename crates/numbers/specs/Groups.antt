@@ -1,11 +1,13 @@
 -- Document 01, 'The sheet and the listing program': a number in groups of seven bits, lowest group first, top bit set on all octets but the last,
 -- shortest form only, below 2 to its width: its octets, and what any octets hold at a place. A number cut short, overlong or out of its width is 15.
 -- Assumes nothing.
-use Rattle.std.specs.Prelude.{cond, List, [], ◌∷◌, ℕ, zero, suc, ◌+◌, ◌-◌, ◌*◌, ◌/◌, ◌%◌, ◌^◌, ltb, leb, eqb, drop}
+use Rattle.std.specs.Prelude.{cond, List, [], ◌∷◌, ℕ, zero, suc, ◌+◌, ◌-◌, ◌*◌, ◌/◌, ◌%◌, ◌^◌, ltb, leb, eqb, drop, Option, Some, None, option_map}
 use Rattle.rule.specs.declared.Refusal.TheVariants.{MalformedSheet}
 use Rattle.rule.specs.Refusals.{number_of}
-use Rattle.numbers.specs.declared.Number.{Number}
-use Rattle.numbers.specs.declared.Number.TheVariants.{Read, Malformed}
+
+-- a number and the place after it, if there is one
+abbrev pub Number : Type 0
+Number = Option (ℕ × ℕ)
 
 -- the octets of a number, as far as k of them
 
@@ -19,18 +21,18 @@ octets_of n = groups_of (suc n) n
 
 -- an octet with its top bit set, before a number: of a shortest form, that number is not 0
 unfoldable pub joined : ℕ → Number → Number
-joined b Malformed = Malformed
-joined b (Read v next) = cond (eqb v 0) Malformed (Read (128 * v + (b - 128)) next)
+joined b None = None
+joined b (Some g) = cond (eqb g.0 0) None (Some (128 * g.0 + (b - 128), g.1))
 
 -- the number at the front of octets, of which the first has this place
 unfoldable pub groups_at : List ℕ → ℕ → Number
-groups_at [] at = Malformed
-groups_at (b ∷ s) at = cond (ltb b 128) (Read b (at + 1)) (joined b (groups_at s (at + 1)))
+groups_at [] at = None
+groups_at (b ∷ s) at = cond (ltb b 128) (Some (b, at + 1)) (joined b (groups_at s (at + 1)))
 
 -- no number above the largest
 unfoldable pub up_to : ℕ → Number → Number
-up_to largest Malformed = Malformed
-up_to largest (Read v next) = cond (leb v largest) (Read v next) Malformed
+up_to largest None = None
+up_to largest (Some g) = cond (leb g.0 largest) (Some g) None
 
 abbrev pub read_up_to : ℕ → List ℕ → ℕ → Number
 read_up_to largest s at = up_to largest (groups_at (drop at s) at)
@@ -47,5 +49,9 @@ pub record Reading : Type 0 where
 
 -- the number and the values of an answer
 abbrev pub reading_of : Number → Reading
-reading_of (Read v next) = record { number = 0; value = v; next = next }
-reading_of Malformed = record { number = number_of MalformedSheet; value = 0; next = 0 }
+reading_of (Some g) = record { number = 0; value = g.0; next = g.1 }
+reading_of None = record { number = number_of MalformedSheet; value = 0; next = 0 }
+
+-- an answer of any width, whose value stands for a number
+abbrev pub stands_for : {A : Type 0} → (A → ℕ) → Option (A × ℕ) → Number
+stands_for value r = option_map (λ g. (value g.0, g.1)) r

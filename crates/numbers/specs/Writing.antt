@@ -1,12 +1,10 @@
 -- Document 01, 'Numbers returned when a call declines', 16: what writing a number into any buffer gives and leaves there.
 -- Assumes nothing.
-use Rattle.std.specs.Prelude.{Bool, List, [], ◌∷◌, ◌++◌, ℕ, ltb, length, drop}
+use Rattle.std.specs.Prelude.{Bool, List, [], ◌∷◌, ◌++◌, ℕ, ltb, length, drop, Result, Ok, Err}
 use Rattle.std.proofs.Math.Option.{Option, none, some}
 use Rattle.rule.specs.declared.Refusal.{Refusal}
 use Rattle.rule.specs.declared.Refusal.TheVariants.{BufferShort}
 use Rattle.rule.specs.Refusals.{number_of, first_of}
-use Rattle.numbers.specs.declared.Written.{Written}
-use Rattle.numbers.specs.declared.Written.TheVariants.{Octets, Short}
 use Rattle.numbers.specs.Groups.{octets_of}
 
 abbrev pub write_order : ℕ → ℕ → List (Bool × Refusal)
@@ -27,6 +25,6 @@ unfoldable pub write_number : ℕ → List ℕ → Writing
 write_number n b = writing (first_of (write_order n (length b))) n b
 
 -- the number and the values of an answer, with the buffer
-abbrev pub writing_of : Written → List ℕ → Writing
-writing_of (Octets k) b = record { number = 0; count = k; buffer = b }
-writing_of Short b = record { number = number_of BufferShort; count = 0; buffer = b }
+abbrev pub writing_of : Result ℕ Refusal → List ℕ → Writing
+writing_of (Ok k) b = record { number = 0; count = k; buffer = b }
+writing_of (Err r) b = record { number = number_of r; count = 0; buffer = b }

@@ -2,110 +2,60 @@
 // 8, 32 or 64 bits from any octets at any place, and written to the front of any buffer. A refused writing leaves the buffer as it was.
 #![tactic(auto)]
 
-ghost use Rattle.std.specs.Prelude.{◌≡◌, ◌++◌, ◌+◌, ◌/◌, ◌≤◌, ◌<◌, length, drop};
-ghost use Rattle.numbers.specs.Groups.{octets_of, joined, up_to, read_up_to, read_number, reading_of};
+ghost use Rattle.std.specs.Prelude.{◌≡◌, ◌++◌, ◌≤◌, length, drop};
+ghost use Rattle.numbers.specs.Groups.{octets_of, read_up_to, read_number, reading_of, stands_for};
 ghost use Rattle.numbers.specs.Writing.{write_number, writing_of};
 
-// What reading finds: the number and the place after its last octet; or no number, for it is cut short, overlong or too large.
-#[derive(Clone, Copy)]
-pub enum Number {
-    Read(u64, usize),
-    Malformed,
-}
+use rule::Refusal;
 
-// What writing answers: how many octets it wrote, or that the buffer is too short for them.
-#[derive(Clone, Copy)]
-pub enum Written {
-    Octets(usize),
-    Short,
-}
+mod width;
 
-fn wide(x: u8) -> u64
-    ensures { (result ≡ x) × (result < 256) }
-{
-    x as u64
-}
-
-// A number, if it is not above the largest.
-fn kept(value: u64, next: usize, largest: u64) -> Number
-    ensures { result ≡ up_to largest (Number.Read value next) }
-{
-    if value <= largest {
-        Number::Read(value, next)
-    } else {
-        Number::Malformed
-    }
-}
-
-// An octet with its top bit set, before the groups of a number.
-fn join(octet: u8, value: u64, next: usize, largest: u64) -> Number
-    requires le_octet { 128 ≤ octet }
-    requires value_bound { value ≤ largest / 128 }
-    ensures { result ≡ up_to largest (joined octet (Number.Read value next)) }
-{
-    if value == 0 {
-        return Number::Malformed;
-    }
-    let low = wide(octet) - 128;
-    kept(128 * value + low, next, largest)
-}
+use width::Width;
 
 // The number at a place, not above the largest. It looks at no more groups than the largest has.
-fn read_up_to(s: &[u8], at: usize, largest: u64) -> Number
+#[tactic(auto, using(crate::proofs::Reading::read_cut, crate::proofs::Reading::read_narrow, crate::proofs::Reading::read_none, crate::proofs::Reading::read_within))]
+fn read_up_to(s: &[u8], at: usize, largest: u64) -> Option<(u64, usize)>
     ensures { result ≡ read_up_to largest s.now at }
 {
-    if s.len() <= at {
-        return Number::Malformed;
-    }
-    let octet = s[at];
+    let octet = *s.get(at)?;
     let next = at + 1;
     if octet < 128 {
-        return kept(wide(octet), next, largest);
+        let value = u64::from(octet);
+        return (value <= largest).then_some((value, next));
     }
     if largest < 128 {
-        return Number::Malformed;
+        return None;
     }
-    match read_up_to(s, next, largest / 128) {
-        Number::Read(value, end) => join(octet, value, end, largest),
-        Number::Malformed => Number::Malformed,
-    }
+    let (rest, end) = read_up_to(s, next, largest / 128)?;
+    let value = 128 * rest + u64::from(octet - 128);
+    ((rest != 0) & (value <= largest)).then_some((value, end))
 }
 
-// Reads a number of 8 bits at a place.
-pub fn read8(s: &[u8], at: usize) -> Number
-    ensures { reading_of result ≡ reading_of (read_number 8 s.now at) }
+// Reads a number at a place, and the place after it. Of none: it is cut short, overlong or too large.
+#[tactic(auto, using(crate::proofs::Reading::read_within))]
+pub fn read<T: Width>(s: &[u8], at: usize) -> Option<(T, usize)>
+    ensures { reading_of (stands_for T.value result) ≡ reading_of (read_number T.width s.now at) }
 {
-    read_up_to(s, at, 255)
-}
-
-// Reads a number of 32 bits at a place.
-pub fn read32(s: &[u8], at: usize) -> Number
-    ensures { reading_of result ≡ reading_of (read_number 32 s.now at) }
-{
-    read_up_to(s, at, 4_294_967_295)
-}
-
-// Reads a number of 64 bits at a place.
-pub fn read64(s: &[u8], at: usize) -> Number
-    ensures { reading_of result ≡ reading_of (read_number 64 s.now at) }
-{
-    read_up_to(s, at, 18_446_744_073_709_551_615)
+    let (value, next) = read_up_to(s, at, T::LARGEST)?;
+    Some((T::narrow(value), next))
 }
 
 // How many octets a number takes.
+#[tactic(auto, using(crate::proofs::Writing::size_more, crate::proofs::Writing::size_last))]
 fn size(n: u64) -> usize
     ensures { result ≡ length (octets_of n) }
 {
     let mut rest = n;
     let mut k: usize = 1;
     while 128 <= rest {
-        rest = rest / 128;
-        k = k + 1;
+        rest /= 128;
+        k += 1;
     }
     k
 }
 
 // A number's octets, at the front of a buffer that has room for them.
+#[tactic(auto, using(crate::proofs::Writing::filling_start, crate::proofs::Writing::filling_room, crate::proofs::Writing::filling_last))]
 fn put(n: u64, out: &mut [u8])
     requires { length (octets_of n) ≤ length out.old }
     ensures { out.new ≡ octets_of n ++ drop (length (octets_of n)) out.old }
@@ -114,20 +64,21 @@ fn put(n: u64, out: &mut [u8])
     let mut i: usize = 0;
     while 128 <= rest {
         out[i] = (128 + rest % 128) as u8;
-        rest = rest / 128;
-        i = i + 1;
+        rest /= 128;
+        i += 1;
     }
     out[i] = rest as u8;
 }
 
 // Writes a number's octets to the front of a buffer. Refused: 16, and the buffer stays as it was.
-pub fn write(n: u64, out: &mut [u8]) -> Written
+#[tactic(auto, unfolding(crate::specs::Writing::write_number))]
+pub fn write(n: u64, out: &mut [u8]) -> Result<usize, Refusal>
     ensures { writing_of result out.new ≡ write_number n out.old }
 {
     let k = size(n);
     if out.len() < k {
-        return Written::Short;
+        return Err(Refusal::BufferShort);
     }
     put(n, out);
-    Written::Octets(k)
+    Ok(k)
 }

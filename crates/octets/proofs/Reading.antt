@@ -1,27 +1,29 @@
--- Laws of reading. In order: the stated length; one entry, a law for each way out of its order; the entries one after the other; the whole reading.
+-- Laws of reading. In order: the stated length; one entry, from the octets that begin at its place; the entries one after the other; the whole reading.
 -- That what is written is read back is in `RoundTrip`.
 -- Assumes nothing.
-use mathlib.Core.Path.{◌≡◌, refl, ap, sym, ◌∙◌}
-use mathlib.Core.Bool.{true, false}
+use mathlib.Core.Path.{◌≡◌, refl, ap, ap₂, sym, ◌∙◌}
+use mathlib.Core.Bool.{Bool, true, false}
+use mathlib.Core.Logic.{◌⊎◌, inl, inr}
 use mathlib.Core.List.{List}
 use mathlib.Core.Option.{Option, none, some}
 use Prim.Native.Nat.{ℕ, suc, ◌+◌, ◌-◌, ◌*◌, ◌≤◌, ◌<◌}
 use native.Mathlib.Nat.{sub-zero}
 use native.Mathlib.Numerals.{add-one}
 use native.Mathlib.Omega.{arith}
-use borrow.Author.Tests.{lt-ltb, le-ltb, le-leb, lt-leb, eq-eqb, ne_eqb}
-use lib.ListN.{length, get_or}
+use borrow.Author.Tests.{lt-ltb, le-ltb, le-leb, lt-leb, ltb-true, ltb-false}
+use lib.Dec.{ltb}
+use lib.ListN.{length, get_or, set, drop, replicate, length-drop}
+use lib.Seq.{get_or-drop, get_or-take}
+use Rattle.std.specs.Prelude.{Ok, Err}
 use Rattle.rule.specs.declared.Refusal.{Refusal}
-use Rattle.rule.specs.declared.Refusal.TheVariants.{CutShort, Operation, LengthOctet, ZeroInterval, ListLength}
+use Rattle.rule.specs.declared.Refusal.TheVariants.{ListLength}
 use Rattle.rule.specs.Refusals.{first_of}
 use Rattle.rule.specs.Orders.{length_offered}
-use Rattle.octets.specs.declared.ReadAnswer.TheVariants.{Accepted, Declined}
-use Rattle.octets.specs.declared.ListRead.{ListRead}
-use Rattle.octets.specs.declared.entry.EntryRead.TheVariants.{Good, Bad}
-use Rattle.gatelist.specs.Coding.{list_from, padded, empty_list}
-use Rattle.octets.specs.Octets.{entry_at, interval_at, entry_order, surplus_order, refused_at, refusal_from, read_refusal, read_list, answered, reading_of, Reads}
+use Rattle.gatelist.specs.Coding.{list_from, padded}
+use Rattle.octets.specs.declared.ReadError.{ReadError}
+use Rattle.octets.specs.Octets.{entry_at, interval_at, entry_order, surplus_order, refused_at, refusal_from, read_refusal, read_list, Reads}
 use Rattle.octets.specs.Parts.{entry_answer, entry_read}
-use Rattle.gatelist.proofs.Coding.{Filled, encoded_from}
+use Rattle.gatelist.proofs.Coding.{length_from, from_more, padded-more, encoded_from}
 
 -- the stated length
 
@@ -29,66 +31,70 @@ pub offered : (n : ℕ) → 1 ≤ n → n ≤ 128 → length_offered n ≡ true
 unfolding length_offered
 offered n h k = simp (le-leb 1 n h, le-leb n 128 k)
 
-pub offered_none : (n : ℕ) → n < 1 → length_offered n ≡ false
+pub unoffered : (n : ℕ) → (n < 1) ⊎ ((1 ≤ n) × (128 < n)) → length_offered n ≡ false
 unfolding length_offered
-offered_none n h = simp (lt-leb 1 n h)
+unoffered n (inl h) = simp (lt-leb 1 n h)
+unoffered n (inr h) = simp (le-leb 1 n h.0, lt-leb n 128 h.1)
 
-pub offered_many : (n : ℕ) → 128 < n → length_offered n ≡ false
-unfolding length_offered
-offered_many n h = simp (le-leb 1 n (omega arith), lt-leb n 128 h)
+-- one entry, of which e are the octets from its place on
 
--- one entry
+module _ (s : List ℕ) (at : ℕ) (e : List ℕ) (q : e ≡ drop at s) where
+  short : (n : ℕ) → 0 < n → ltb (length s) (at + n) ≡ ltb (length e) n
+  short n p = go (ltb (length e) n) refl
+    where
+      l : length e ≡ length s - at
+      l = ap length q ∙ length-drop at s
+
+      go : (b : Bool) → ltb (length e) n ≡ b → ltb (length s) (at + n) ≡ b
+      go true t = let h = ltb-true _ _ t in lt-ltb _ _ (omega (arith, l))
+      go false t = let h = ltb-false _ _ t in le-ltb _ _ (omega (arith, l))
+
+  octet : (j k : ℕ) → j ≡ at + k → get_or s j 0 ≡ get_or e k 0
+  octet j k p = ap (λ i. get_or s i 0) p ∙ sym (get_or-drop at s k 0) ∙ ap (λ l. get_or l k 0) (sym q)
+
+  pub read_from : entry_read s at ≡ entry_answer (first_of (entry_order e 0)) at (get_or e 2 0) (interval_at e 3)
+  unfolding entry_read
+  read_from =
+      simp (
+        short 2 (omega arith),
+        short 7 (omega arith),
+        octet at 0 (omega arith),
+        octet (at + 1) 1 refl,
+        octet (at + 2) 2 refl,
+        octet (at + 3) 3 refl,
+        octet (at + 3 + 1) 4 (omega arith),
+        octet (at + 3 + 2) 5 (omega arith),
+        octet (at + 3 + 3) 6 (omega arith),
+      )
+
+pub ruleset of_entry = (read_from, get_or-take, get_or-drop)
+
+-- what an entry's reading says of its order
 
 module _ (s : List ℕ) (at : ℕ) where
-  pub short_header : length s < at + 2 → Bad CutShort ≡ entry_read s at
-  unfolding entry_read
-  short_header a = simp (lt-ltb _ _ a)
+  record Read (o v : ℕ) : Type 0 where
+    passed : first_of (entry_order s at) ≡ none
+    octet : o ≡ get_or s (at + 2) 0
+    interval : v ≡ interval_at s (at + 3)
 
-  module _ (a : at + 2 ≤ length s) where
-    pub bad_operation : (get_or s at 0 ≡ 0 → ⊥) → Bad Operation ≡ entry_read s at
-    unfolding entry_read
-    bad_operation b = simp (le-ltb _ _ a, ne_eqb _ _ b)
-
-    module _ (b : get_or s at 0 ≡ 0) where
-      pub bad_length : (get_or s (at + 1) 0 ≡ 5 → ⊥) → Bad LengthOctet ≡ entry_read s at
-      unfolding entry_read
-      bad_length c = simp (le-ltb _ _ a, eq-eqb _ _ b, ne_eqb _ _ c)
-
-      module _ (c : get_or s (at + 1) 0 ≡ 5) where
-        pub short_body : length s < at + 7 → Bad CutShort ≡ entry_read s at
-        unfolding entry_read
-        short_body d = simp (le-ltb _ _ a, eq-eqb _ _ b, eq-eqb _ _ c, lt-ltb _ _ d)
-
-        module _ (d : at + 7 ≤ length s) (v : ℕ) (q : v ≡ interval_at s (at + 3)) where
-          pub bad_interval : v ≡ 0 → Bad ZeroInterval ≡ entry_read s at
-          unfolding entry_read
-          bad_interval e = simp (le-ltb _ _ a, eq-eqb _ _ b, eq-eqb _ _ c, le-ltb _ _ d, eq-eqb _ _ (sym q ∙ e))
-
-          pub good_entry : (v ≡ 0 → ⊥) → Good (get_or s (at + 2) 0) v ≡ entry_read s at
-          unfolding entry_read
-          good_entry e = simp (q, le-ltb _ _ a, eq-eqb _ _ b, eq-eqb _ _ c, le-ltb _ _ d, ne_eqb _ _ (rw q at e))
-
-  -- what an entry that was read says of the octets
-  pub record Read (o v : ℕ) : Type 0 where
-    pub passed : first_of (entry_order s at) ≡ none
-    pub octet : o ≡ get_or s (at + 2) 0
-    pub interval : v ≡ interval_at s (at + 3)
-
-  pub read_good : (o v : ℕ) → entry_read s at ≡ Good o v → Read o v
+  read_good : (o v : ℕ) → Ok (o, v) ≡ entry_read s at → Read o v
   unfolding entry_read
   read_good o v e = go (first_of (entry_order s at)) refl e
     where
-      go : (x : Option Refusal) → first_of (entry_order s at) ≡ x → entry_answer x (get_or s (at + 2) 0) (interval_at s (at + 3)) ≡ Good o v → Read o v
-      go none p q = record { passed = p; octet = cc; interval = cc }
-      go (some r) p q = let z : ◌≡◌ {A = ℕ} 0 1 = cc in absurd (omega arith)
+      go : (x : Option Refusal) → first_of (entry_order s at) ≡ x → Ok (o, v) ≡ entry_answer x at (get_or s (at + 2) 0) (interval_at s (at + 3)) → Read o v
+      go none p q =
+          let z : ◌≡◌ {A = ℕ × ℕ} (o, v) (get_or s (at + 2) 0, interval_at s (at + 3)) = cc in
+          record { passed = p; octet = ap (λ (y : ℕ × ℕ). y.0) z; interval = ap (λ (y : ℕ × ℕ). y.1) z }
+      go (some r) p q = cc
 
-  pub read_bad : (r : Refusal) → entry_read s at ≡ Bad r → first_of (entry_order s at) ≡ some r
+  read_bad : (x : ReadError) → Err x ≡ entry_read s at → (first_of (entry_order s at) ≡ some x.refusal) × (x.place ≡ at)
   unfolding entry_read
-  read_bad r e = go (first_of (entry_order s at)) refl e
+  read_bad x e = go (first_of (entry_order s at)) refl e
     where
-      go : (x : Option Refusal) → first_of (entry_order s at) ≡ x → entry_answer x (get_or s (at + 2) 0) (interval_at s (at + 3)) ≡ Bad r → first_of (entry_order s at) ≡ some r
-      go none p q = let z : ◌≡◌ {A = ℕ} 0 1 = cc in absurd (omega arith)
-      go (some t) p q = cc
+      go : (y : Option Refusal) → first_of (entry_order s at) ≡ y → Err x ≡ entry_answer y at (get_or s (at + 2) 0) (interval_at s (at + 3))
+          → (first_of (entry_order s at) ≡ some x.refusal) × (x.place ≡ at)
+      go none p q = cc
+      go (some r) p q = (cc, cc)
 
 -- the entries one after the other
 
@@ -97,54 +103,68 @@ module _ (s : List ℕ) where
   unfolding refusal_from
   refusal_suc i m k e = rw e
 
-  refusal_zero : (i m : ℕ) → m ≡ 0 → refusal_from s i m ≡ refused_at (7 * i) (first_of (surplus_order s (7 * i))) none
+  refusal_zero : (n i m : ℕ) → i ≡ n → m ≡ 0 → refusal_from s i m ≡ refused_at (7 * n) (first_of (surplus_order s (7 * n))) none
   unfolding refusal_from
-  refusal_zero i m e = rw e
+  refusal_zero n i m p e = rw (e, p)
 
-  module _ (n i : ℕ) where
-    pub refusal_more : i < n → first_of (entry_order s (7 * i)) ≡ none → refusal_from s i (n - i) ≡ refusal_from s (i + 1) (n - (i + 1))
-    refusal_more h e =
-        refusal_suc i (n - i) (n - (i + 1)) (omega arith) ∙ ap (λ x. refused_at (7 * i) x (refusal_from s (suc i) (n - (i + 1)))) e
-        ∙ ap (λ j. refusal_from s j (n - (i + 1))) (sym (add-one i))
+-- one place of an array more
+filled_more : (f : ℕ → ℕ) (xs : List ℕ) (i v : ℕ) → i < 128 → v ≡ f i → xs ≡ padded (list_from f 0 i) → set xs i v ≡ padded (list_from f 0 (i + 1))
+filled_more f xs i v h e q =
+    ap₂ (λ l w. set l i w) q e ∙ padded-more (list_from f 0 i) i (f i) (length_from f 0 i) h ∙ ap padded (sym (from_more f i))
 
-    pub refusal_entry : (r : Refusal) → i < n → first_of (entry_order s (7 * i)) ≡ some r → refusal_from s i (n - i) ≡ some (r, 7 * i)
-    refusal_entry r h e =
-        refusal_suc i (n - i) (n - (i + 1)) (omega arith) ∙ ap (λ x. refused_at (7 * i) x (refusal_from s (suc i) (n - (i + 1)))) e
+module _ (s : List ℕ) (n : ℕ) where
+  pub refusal_start : 1 ≤ n → n ≤ 128 → read_refusal s n ≡ refusal_from s 0 (n - 0)
+  unfolding read_refusal
+  refusal_start h k = rw (offered n h k, sub-zero)
 
-    pub refusal_surplus : n ≡ i → 7 * n < length s → refusal_from s i (n - i) ≡ some (ListLength, 7 * n)
-    refusal_surplus e h =
-        refusal_zero i (n - i) (omega arith)
-        ∙ ap (λ j. refused_at (7 * j) (first_of (surplus_order s (7 * j))) none) (sym e) ∙ rw (lt-ltb (7 * n) (length s) h)
+  -- i entries are read into the first places of the arrays, the other places are zero, and what is left of the order is asked from entry i on
+  pub record Midway (os is : List ℕ) (i : ℕ) : Type 0 where
+    pub rest : read_refusal s n ≡ refusal_from s i (n - i)
+    pub octets : os ≡ padded (list_from (λ k. (entry_at s k).octet) 0 i)
+    pub intervals : is ≡ padded (list_from (λ k. (entry_at s k).interval) 0 i)
 
-    pub refusal_end : n ≡ i → length s ≤ 7 * n → refusal_from s i (n - i) ≡ none
-    refusal_end e h =
-        refusal_zero i (n - i) (omega arith)
-        ∙ ap (λ j. refused_at (7 * j) (first_of (surplus_order s (7 * j))) none) (sym e) ∙ rw (le-ltb (7 * n) (length s) h)
+  declined : (r : Refusal) (p : ℕ) → read_refusal s n ≡ some (r, p) → Reads s n (Err (record { refusal = r; place = p }))
+  unfolding read_list
+  declined r p e = rw e
 
-  -- the whole reading
+  pub read_unoffered : (n < 1) ⊎ ((1 ≤ n) × (128 < n)) → Reads s n (Err (record { refusal = ListLength; place = 0 }))
+  unfolding read_refusal
+  read_unoffered h = declined ListLength 0 (rw (unoffered n h))
 
-  module _ (n : ℕ) where
-    pub refusal_none : n < 1 → read_refusal s n ≡ some (ListLength, 0)
-    unfolding read_refusal
-    refusal_none h = rw (offered_none n h)
+  pub read_start : 1 ≤ n → n ≤ 128 → Midway (replicate 128 0) (replicate 128 0) 0
+  unfolding padded list_from
+  read_start h k = record { rest = refusal_start h k; octets = refl; intervals = refl }
 
-    pub refusal_many : 128 < n → read_refusal s n ≡ some (ListLength, 0)
-    unfolding read_refusal
-    refusal_many h = rw (offered_many n h)
+  module _ (os is : List ℕ) (i : ℕ) (m : Midway os is i) where
+    module _ (h : i < n) where
+      next : refusal_from s i (n - i) ≡ refused_at (7 * i) (first_of (entry_order s (7 * i))) (refusal_from s (i + 1) (n - (i + 1)))
+      next = refusal_suc s i (n - i) (n - (i + 1)) (omega arith)
+          ∙ ap (λ j. refused_at (7 * i) (first_of (entry_order s (7 * i))) (refusal_from s j (n - (i + 1)))) (sym (add-one i))
 
-    pub refusal_start : 1 ≤ n → n ≤ 128 → read_refusal s n ≡ refusal_from s 0 (n - 0)
-    unfolding read_refusal
-    refusal_start h k = rw (offered n h k, sub-zero)
+      pub read_stopped : (x : ReadError) → Err x ≡ entry_read s (7 * i) → Reads s n (Err x)
+      read_stopped x e =
+          let z = read_bad s (7 * i) x e in
+          declined x.refusal x.place (m.rest ∙ next ∙ rw (z.0, z.1))
 
-    pub declined-read : (x : ListRead) (r : Refusal) (p : ℕ) → x ≡ record { answer = Declined r p; list = empty_list } → read_refusal s n ≡ some (r, p)
-        → Reads s n x
-    unfolding read_list
-    declined-read x r p q e = ap reading_of q ∙ rw e
+      pub read_more : n ≤ 128 → (o v : ℕ) → Ok (o, v) ≡ entry_read s (7 * i) → Midway (set os i o) (set is i v) (i + 1)
+      read_more f o v e =
+          let z = read_good s (7 * i) o v e in
+          let k : i < 128 = omega arith in
+          record {
+            rest = m.rest ∙ next ∙ rw z.passed;
+            octets = filled_more _ os i o k z.octet m.octets;
+            intervals = filled_more _ is i v k z.interval m.intervals;
+          }
 
-    pub accepted-read : (i : ℕ) (os is : List ℕ) → n ≡ i → read_refusal s n ≡ none → Filled (λ k. (entry_at s k).octet) os i
-        → Filled (λ k. (entry_at s k).interval) is i → answered Accepted (record { octets = os; intervals = is; len = n }) ≡ read_list s n
-    unfolding read_list
-    accepted-read i os is q e f g =
-        let o : os ≡ padded (list_from (λ k. (entry_at s k).octet) 0 n) = f.same ∙ ap (λ m. padded (list_from (λ k. (entry_at s k).octet) 0 m)) (sym q) in
-        let v : is ≡ padded (list_from (λ k. (entry_at s k).interval) 0 n) = g.same ∙ ap (λ m. padded (list_from (λ k. (entry_at s k).interval) 0 m)) (sym q) in
-        ap (answered Accepted) ((λ j. record { octets = o j; intervals = v j; len = n }) ∙ sym (encoded_from (entry_at s) n)) ∙ rw e
+    module _ (q : i ≡ n) where
+      last : refusal_from s i (n - i) ≡ refused_at (7 * n) (first_of (surplus_order s (7 * n))) none
+      last = refusal_zero s n i (n - i) q (omega arith)
+
+      pub read_surplus : 7 * n < length s → Reads s n (Err (record { refusal = ListLength; place = 7 * n }))
+      read_surplus h = declined ListLength (7 * n) (m.rest ∙ last ∙ rw (lt-ltb (7 * n) (length s) h))
+
+      pub read_done : length s ≤ 7 * n → Reads s n (Ok (record { octets = os; intervals = is; len = n }))
+      unfolding read_list
+      read_done h =
+          let e : read_refusal s n ≡ none = m.rest ∙ last ∙ rw (le-ltb (7 * n) (length s) h) in
+          rw (e, encoded_from (entry_at s) n, m.octets, m.intervals, q)

@@ -1,42 +1,31 @@
--- Laws of writing. In order: seven stores; the octets of entries one after the other; the buffer as a loop leaves it; the answer, a law for each way out.
+-- Laws of writing. In order: the octets of entries one after the other; the buffer as a loop leaves it; the answer, a law for each way out.
 -- That an accepted reading is written back is in `RoundTrip`.
 -- Assumes nothing.
 use mathlib.Core.Path.{◌≡◌, refl, ap, ap₂, sym, ◌∙◌}
 use mathlib.Core.Bool.{Bool, true, false}
+use mathlib.Core.Logic.{◌⊎◌}
 use mathlib.Core.List.{List, [], ◌∷◌, ◌++◌, append_assoc, append-nil}
 use mathlib.Core.Option.{none, some}
 use Prim.Native.Nat.{ℕ, ◌+◌, ◌-◌, ◌*◌, ◌≤◌, ◌<◌}
 use native.Mathlib.Nat.{le_refl}
 use native.Mathlib.Omega.{arith}
 use borrow.Author.Tests.{lt-ltb, le-ltb}
-use lib.ListN.{length, set, take, drop, length-append, length-drop, drop_of_length-le}
+use lib.ListN.{length, take, drop, length-drop, drop_of_length-le}
 use lib.Seq.{take_at, drop_at, drop-drop, take_all}
+use Rattle.std.specs.Prelude.{Ok, Err}
 use Rattle.rule.specs.declared.Refusal.{Refusal}
 use Rattle.rule.specs.declared.Refusal.TheVariants.{ZeroInterval, ListLength, BufferShort}
 use Rattle.rule.specs.Refusals.{first_of}
 use Rattle.rule.specs.Orders.{length_offered, has_zero_interval}
 use Rattle.rule.specs.Entries.{Entry}
 use Rattle.gatelist.specs.declared.GateList.{GateList}
-use Rattle.octets.specs.declared.Written.TheVariants.{Octets, Unwritten}
 use Rattle.gatelist.specs.Coding.{entry_of, entries_from, list_of}
 use Rattle.gatelist.specs.Promises.{FindsZero}
 use Rattle.octets.specs.Octets.{entry_octets, octets_of, write_order, writing, write_list, writing_of, Writes}
 use Rattle.octets.specs.Parts.{entry_into}
 use Rattle.gatelist.proofs.Coding.{length_from, from_more}
 use Rattle.gatelist.proofs.Sound.{zero_listed}
-use Rattle.octets.proofs.Reading.{offered, offered_none, offered_many}
-
--- seven stores
-pub seven_stores : (p : List ℕ) (a b c d e f g : ℕ) → 7 ≤ length p
-    → set (set (set (set (set (set (set p 0 a) 1 b) 2 c) 3 d) 4 e) 5 f) 6 g ≡ a ∷ b ∷ c ∷ d ∷ e ∷ f ∷ g ∷ drop 7 p
-seven_stores [] a b c d e f g h = absurd (omega arith)
-seven_stores (x0 ∷ []) a b c d e f g h = absurd (omega arith)
-seven_stores (x0 ∷ x1 ∷ []) a b c d e f g h = absurd (omega arith)
-seven_stores (x0 ∷ x1 ∷ x2 ∷ []) a b c d e f g h = absurd (omega arith)
-seven_stores (x0 ∷ x1 ∷ x2 ∷ x3 ∷ []) a b c d e f g h = absurd (omega arith)
-seven_stores (x0 ∷ x1 ∷ x2 ∷ x3 ∷ x4 ∷ []) a b c d e f g h = absurd (omega arith)
-seven_stores (x0 ∷ x1 ∷ x2 ∷ x3 ∷ x4 ∷ x5 ∷ []) a b c d e f g h = absurd (omega arith)
-seven_stores (x0 ∷ x1 ∷ x2 ∷ x3 ∷ x4 ∷ x5 ∷ x6 ∷ p) a b c d e f g h = refl
+use Rattle.octets.proofs.Reading.{offered, unoffered}
 
 -- the octets of entries one after the other
 
@@ -58,10 +47,6 @@ module _ (os is out : List ℕ) (i : ℕ) where
   length_before : length before ≡ 7 * i
   unfolding before
   length_before = length-octets (entries_from os is 0 i) ∙ ap (λ n. 7 * n) (length_from (entry_of os is) 0 i)
-
-  pub buffer-long : 7 * i ≤ length out → length (octets_of (entries_from os is 0 i) ++ drop (7 * i) out) ≡ length out
-  unfolding before
-  buffer-long h = length-append before (drop (7 * i) out) ∙ omega (arith, length_before, length-drop (7 * i) out)
 
   more : octets_of (entries_from os is 0 (i + 1)) ≡ before ++ entry_octets (entry_of os is i)
   unfolding before octets_of
@@ -98,31 +83,28 @@ order_passed l room e z h = rw (e, z, le-ltb room (7 * l.len) h)
 
 module _ (l : GateList) (b : List ℕ) where
   -- a refusal leaves the buffer as it was
-  unwritten : (r : Refusal) → first_of (write_order l (length b)) ≡ some r → Writes l b (Unwritten r) b
+  unwritten : (r : Refusal) → first_of (write_order l (length b)) ≡ some r → Writes l b (Err r) b
   unfolding write_list
   unwritten r e = sym (ap (λ x. writing x l b) e)
 
-  pub write_none : l.len < 1 → Writes l b (Unwritten ListLength) b
-  write_none h = unwritten ListLength (rw (offered_none l.len h))
+  pub write_unoffered : (l.len < 1) ⊎ ((1 ≤ l.len) × (128 < l.len)) → Writes l b (Err ListLength) b
+  write_unoffered h = unwritten ListLength (rw (unoffered l.len h))
 
-  pub write_many : 128 < l.len → Writes l b (Unwritten ListLength) b
-  write_many h = unwritten ListLength (rw (offered_many l.len h))
+  -- what is found of the list's intervals
+  module _ (is : List ℕ) (n : ℕ) (p : is ≡ l.intervals) (q : n ≡ l.len) (h : 1 ≤ l.len) (k : l.len ≤ 128) where
+    known : (zero : Bool) → FindsZero is n zero → has_zero_interval (list_of l) ≡ zero
+    known zero e = sym (zero_listed l.octets l.intervals l.len zero (rw (p, q) at e))
 
-  module _ (zero : Bool) (e : FindsZero l.intervals l.len zero) (h : 1 ≤ l.len) (k : l.len ≤ 128) where
-    zero_known : zero ≡ has_zero_interval (list_of l)
-    zero_known = zero_listed l.octets l.intervals l.len zero e
+    pub write-zero : FindsZero is n true → Writes l b (Err ZeroInterval) b
+    write-zero e = unwritten ZeroInterval (rw (offered l.len h k, known true e))
 
-    pub write-zero : zero ≡ true → Writes l b (Unwritten ZeroInterval) b
-    write-zero t = unwritten ZeroInterval (rw (offered l.len h k, sym zero_known ∙ t))
-
-    module _ (t : zero ≡ false) where
-      pub write-short : length b < 7 * l.len → Writes l b (Unwritten BufferShort) b
-      write-short j = unwritten BufferShort (rw (offered l.len h k, sym zero_known ∙ t, lt-ltb (length b) (7 * l.len) j))
+    module _ (e : FindsZero is n false) where
+      pub write-short : length b < 7 * l.len → Writes l b (Err BufferShort) b
+      write-short j = unwritten BufferShort (rw (offered l.len h k, known false e, lt-ltb (length b) (7 * l.len) j))
 
       pub write_done : (i : ℕ) (buf : List ℕ) → i ≡ l.len → 7 * l.len ≤ length b → buf ≡ octets_of (entries_from l.octets l.intervals 0 i) ++ drop (7 * i) b
-          → Writes l b (Octets (7 * l.len)) buf
+          → Writes l b (Ok (7 * l.len)) buf
       unfolding write_list
-      write_done i buf q j f =
-          let o = order_passed l (length b) (offered l.len h k) (sym zero_known ∙ t) j in
-          ap (writing_of (Octets (7 * l.len))) (f ∙ ap (λ n. octets_of (entries_from l.octets l.intervals 0 n) ++ drop (7 * n) b) q)
-          ∙ sym (ap (λ x. writing x l b) o)
+      write_done i buf t j f =
+          ap (writing_of (Ok (7 * l.len))) (f ∙ ap (λ m. octets_of (entries_from l.octets l.intervals 0 m) ++ drop (7 * m) b) t)
+          ∙ sym (ap (λ x. writing x l b) (order_passed l (length b) (offered l.len h k) (known false e) j))

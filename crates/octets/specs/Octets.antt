@@ -2,7 +2,7 @@
 -- octets with any stated length gives, and what writing any record into any buffer gives and leaves there.
 -- Where 01 narrows the standard: the operation is SetGateStates alone, and an interval is at least 1.
 -- Assumes nothing.
-use Rattle.std.specs.Prelude.{◌≡◌, Bool, not, List, [], ◌∷◌, ◌++◌, ℕ, zero, suc, ◌+◌, ◌*◌, ◌/◌, ◌%◌, ltb, eqb, length, get_or, drop}
+use Rattle.std.specs.Prelude.{◌≡◌, Bool, not, List, [], ◌∷◌, ◌++◌, ℕ, zero, suc, ◌+◌, ◌*◌, ◌/◌, ◌%◌, ltb, eqb, length, get_or, drop, Result, Ok, Err}
 use Rattle.std.proofs.Math.Option.{Option, none, some}
 use Rattle.rule.specs.declared.Refusal.{Refusal}
 use Rattle.rule.specs.declared.Refusal.TheVariants.{CutShort, Operation, LengthOctet, ZeroInterval, ListLength, BufferShort}
@@ -10,11 +10,7 @@ use Rattle.rule.specs.Refusals.{number_of, first_of}
 use Rattle.rule.specs.Orders.{length_offered, has_zero_interval}
 use Rattle.rule.specs.Entries.{Entry}
 use Rattle.gatelist.specs.declared.GateList.{GateList}
-use Rattle.octets.specs.declared.ReadAnswer.{ReadAnswer}
-use Rattle.octets.specs.declared.ReadAnswer.TheVariants.{Accepted, Declined}
-use Rattle.octets.specs.declared.ListRead.{ListRead}
-use Rattle.octets.specs.declared.Written.{Written}
-use Rattle.octets.specs.declared.Written.TheVariants.{Octets, Unwritten}
+use Rattle.octets.specs.declared.ReadError.{ReadError}
 use Rattle.gatelist.specs.Coding.{list_from, list_of, encode_list, empty_list}
 
 -- an entry is seven octets: operation 0, length 5, gate octet, interval in ns as four octets, most significant first
@@ -60,7 +56,7 @@ refusal_from s i (suc n) = refused_at (7 * i) (first_of (entry_order s (7 * i)))
 unfoldable pub read_refusal : List ℕ → ℕ → Option (Refusal × ℕ)
 read_refusal s n = refused_at 0 (first_of (stated_order n)) (refusal_from s 0 n)
 
--- what is read: document 01's number (0: accepted), the refusal's place, and the list; a refused reading hands back the list of all zeros
+-- what is read: document 01's number (0: accepted), the refusal's place, and the list; that of a refused reading is the list of all zeros
 pub record Reading : Type 0 where
   pub number : ℕ
   pub place : ℕ
@@ -73,16 +69,13 @@ reading (some x) l = record { number = number_of x.0; place = x.1; list = empty_
 unfoldable pub read_list : List ℕ → ℕ → Reading
 read_list s n = reading (read_refusal s n) (encode_list (list_from (entry_at s) 0 n))
 
--- the number and the values of an answer
-abbrev pub answered : ReadAnswer → GateList → Reading
-answered Accepted l = record { number = 0; place = 0; list = l }
-answered (Declined r p) l = record { number = number_of r; place = p; list = l }
-
-abbrev pub reading_of : ListRead → Reading
-reading_of x = answered x.answer x.list
+-- the number and the values of an answer; with a refusal comes no list, which stands for the list of all zeros
+abbrev pub reading_of : Result GateList ReadError → Reading
+reading_of (Ok l) = record { number = 0; place = 0; list = l }
+reading_of (Err e) = record { number = number_of e.refusal; place = e.place; list = empty_list }
 
 -- what `read` promises of its answer
-abbrev pub Reads : List ℕ → ℕ → ListRead → Type 0
+abbrev pub Reads : List ℕ → ℕ → Result GateList ReadError → Type 0
 Reads s n r = reading_of r ≡ read_list s n
 
 -- Write: 5, 4, 16; what is written stands at the front of the buffer, and the rest stays
@@ -104,10 +97,10 @@ unfoldable pub write_list : GateList → List ℕ → Writing
 write_list l b = writing (first_of (write_order l (length b))) l b
 
 -- the number and the values of an answer, with the buffer
-abbrev pub writing_of : Written → List ℕ → Writing
-writing_of (Octets n) b = record { number = 0; count = n; buffer = b }
-writing_of (Unwritten r) b = record { number = number_of r; count = 0; buffer = b }
+abbrev pub writing_of : Result ℕ Refusal → List ℕ → Writing
+writing_of (Ok n) b = record { number = 0; count = n; buffer = b }
+writing_of (Err r) b = record { number = number_of r; count = 0; buffer = b }
 
 -- what `write` promises of its answer and of the buffer's content b' afterwards
-abbrev pub Writes : GateList → List ℕ → Written → List ℕ → Type 0
+abbrev pub Writes : GateList → List ℕ → Result ℕ Refusal → List ℕ → Type 0
 Writes l b r b' = writing_of r b' ≡ write_list l b

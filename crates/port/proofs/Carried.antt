@@ -2,7 +2,7 @@
 -- those of `decode p` (`act_carried`, `look_carried`, `new_carried`). So every fact of `rule` on `perform`, `shown` and the orders, the bench cases 2 to 8
 -- and 10 of document 01 among them, holds of the record. And no accepted act and no new port is malformed (`act-formed`, `new-formed`).
 -- Assumes nothing.
-use Rattle.std.proofs.Common.{◌≡◌, ℕ, Bool, true, false, cond, ltb, sym, refl, ap, ◌∙◌, arith, ltb-false}
+use Rattle.std.proofs.Common.{◌≡◌, ℕ, Bool, true, false, cond, ltb, sym, refl, ap, ◌∙◌, arith, ltb-false, Result}
 use mathlib.Core.Option.{Option, none, some}
 use Rattle.rule.specs.Limits.{largest_instant}
 use Rattle.rule.specs.declared.Refusal.{Refusal}
@@ -16,7 +16,6 @@ use Rattle.rule.specs.Orders.{act_order, look_order, new_order, accepts}
 use Rattle.rule.proofs.Sound.{sound-new, sound-perform}
 use Rattle.port.specs.declared.Port.{Port}
 use Rattle.port.specs.declared.Acted.{Acted}
-use Rattle.port.specs.declared.Looked.{Looked}
 use Rattle.port.specs.Record.{well_formed}
 use Rattle.port.specs.Coding.{decode, encode}
 use Rattle.port.specs.Checks.{Fine}
@@ -52,13 +51,13 @@ module _ (p : Port) (w : well_formed p ≡ true) (a : Act) where
       go false e = w
 
   -- its answer is the rule's
-  pub act_carried : (r : Acted) → Performs a p r
+  pub act_carried : (r : Acted Unit) → Performs a p r
       → (r.answer ≡ answer_of (first_of (act_order a (decode p)))) × (decode r.port ≡ cond (accepts a (decode p)) (perform a (decode p)) (decode p))
   act_carried r k =
       let o : Option Refusal = first_of (act_order a (decode p)) in
       (answer-told r.answer (answer_of o) (k.number ∙ ap numbered declines-is ∙ sym (number_of_lem o)), port_carried r.port k.port)
 
-  pub act-formed : Fine p → (r : Acted) → Performs a p r → well_formed r.port ≡ true
+  pub act-formed : Fine p → (r : Acted Unit) → Performs a p r → well_formed r.port ≡ true
   act-formed f r k = port-formed f r.port k.port
 
 -- a look
@@ -68,7 +67,7 @@ module _ (p : Port) (w : well_formed p ≡ true) (t : ℕ) where
   unfolding look_declines
   look_declines_lem = rw w
 
-  pub look_carried : (r : Looked) → Looks p t r → r ≡ looked_of (first_of (look_order t (decode p).gates)) (shown (decode p).gates t)
+  pub look_carried : (r : Result ℕ Refusal) → Looks p t r → r ≡ looked_of (first_of (look_order t (decode p).gates)) (shown (decode p).gates t)
   look_carried r k =
       let o : Option Refusal = first_of (look_order t (decode p).gates) in
       let octet : ℕ = shown (decode p).gates t in
@@ -77,7 +76,7 @@ module _ (p : Port) (w : well_formed p ≡ true) (t : ℕ) where
 
 -- a new port
 
-module _ (start octet : ℕ) (r : Acted) (k : Makes start octet r) where
+module _ (start octet : ℕ) (r : Acted Unit) (k : Makes start octet r) where
   pub new_carried : accepted (first_of (new_order start)) ≡ true → decode r.port ≡ new_port start octet
   new_carried e = ap decode (k.port ∙ rw e) ∙ decode-encode (new_port start octet)
 

@@ -12,11 +12,13 @@ use Rattle.rule.specs.Choice.{duration, next_start, qualifies}
 use Rattle.rule.specs.Acts.{transmit, performed, perform, is_some}
 use Rattle.rule.specs.Orders.{accepts}
 use Rattle.rule.proofs.Choice.{Highest, Chosen, chosen_is, chosen_none}
-use Rattle.frames.specs.declared.Choice.TheVariants as choice
-use Rattle.frames.specs.Decision.{choice_of}
+use Rattle.std.specs.Prelude.{Some, None, Ok}
+use Rattle.std.specs.Prelude as std
+use Rattle.frames.specs.declared.Sending.{Sending}
+use Rattle.frames.specs.Decision.{choice_of, choice_values}
 use Rattle.frames.proofs.Unique.{choice_told}
 use Rattle.port.specs.declared.Port.{Port}
-use Rattle.port.specs.declared.Transmitted.{Transmitted}
+use Rattle.port.specs.declared.Acted.{Acted}
 use Rattle.port.specs.Record.{well_formed}
 use Rattle.port.specs.Coding.{decode}
 use Rattle.port.specs.Checks.{Fine}
@@ -25,7 +27,7 @@ use Rattle.port.specs.Transmit.{Transmits}
 use Rattle.port.proofs.Numbers.{choice_number_lem}
 use Rattle.port.proofs.Carried.{port_carried, port-formed}
 
-module _ (heads : List ℕ) (speed : ℕ) (p : Port) (r : Transmitted) (k : Transmits heads speed p r) where
+module _ (heads : List ℕ) (speed : ℕ) (p : Port) (r : Acted (std.Option Sending)) (k : Transmits heads speed p r) where
   module _ (w : well_formed p ≡ true) where
     pub transmit_carried : decode r.port ≡ cond (accepts (transmit heads speed) (decode p)) (perform (transmit heads speed) (decode p)) (decode p)
     transmit_carried = port_carried p w (transmit heads speed) r.port k.port
@@ -44,18 +46,18 @@ module _ (heads : List ℕ) (speed : ℕ) (p : Port) (r : Transmitted) (k : Tran
         let f : Option model.Frame = (performed (transmit heads speed) (decode p)).frame in
         choice_told r.answer (choice_of o f) (k.number ∙ sym (choice_number_lem o f)) k.values ∙ ap (λ d. choice_of d f) e
 
-    pub chooses_none : (r.answer ≡ choice.Nothing) ↔ ((j : ℕ) → j < 8 → qualifies_now j ≡ false)
+    pub chooses_none : (r.answer ≡ Ok None) ↔ ((j : ℕ) → j < 8 → qualifies_now j ≡ false)
     chooses_none =
         let c = chosen_none heads speed (decode p).gates.clock (shown (decode p).gates) in (
           λ a. c.0 (empty (performed (transmit heads speed) (decode p)).frame (sym answered ∙ a)),
           λ f. answered ∙ nothing (performed (transmit heads speed) (decode p)).frame (c.1 f),
         )
       where
-        empty : (o : Option model.Frame) → choice_of none o ≡ choice.Nothing → is_some o ≡ false
+        empty : (o : Option model.Frame) → choice_of none o ≡ Ok None → is_some o ≡ false
         empty none q = refl
         empty (some f) q = let z : ◌≡◌ {A = ℕ} 0 1 = cc in absurd (omega arith)
 
-        nothing : (o : Option model.Frame) → is_some o ≡ false → choice_of none o ≡ choice.Nothing
+        nothing : (o : Option model.Frame) → is_some o ≡ false → choice_of none o ≡ Ok None
         nothing none q = refl
         nothing (some f) q = let z : ◌≡◌ {A = ℕ} 0 1 = cc in absurd (omega arith)
 
@@ -66,15 +68,15 @@ module _ (heads : List ℕ) (speed : ℕ) (p : Port) (r : Transmitted) (k : Tran
         let len : ℕ = get_or heads class 0 in
         (start ≡ now) × ((last ≡ now + duration len speed) × (end ≡ now + next_start len speed))
 
-    module _ (class start last end : ℕ) (a : r.answer ≡ choice.Frame class start last end) where
-      framed : (o : Option model.Frame) → choice_of none o ≡ choice.Frame class start last end → Chosen heads speed (decode p).gates.clock qualifies_now o
+    module _ (class start last end : ℕ) (a : r.answer ≡ Ok (Some (record { class = class; start = start; last = last; end = end }))) where
+      framed : (o : Option model.Frame) → choice_of none o ≡ Ok (Some (record { class = class; start = start; last = last; end = end })) → Chosen heads speed (decode p).gates.clock qualifies_now o
           → Highest qualifies_now 8 (some class) × Timed class start last end
       framed none q c = let z : ◌≡◌ {A = ℕ} 0 1 = cc in absurd (omega arith)
       framed (some f) q c =
-          let x : f.class ≡ class = cc in
-          let y : f.start ≡ start = cc in
-          let z : f.last ≡ last = cc in
-          let v : f.end ≡ end = cc in (
+          let x : f.class ≡ class = ap (λ r. get_or (choice_values r) 1 0) q in
+          let y : f.start ≡ start = ap (λ r. get_or (choice_values r) 2 0) q in
+          let z : f.last ≡ last = ap (λ r. get_or (choice_values r) 3 0) q in
+          let v : f.end ≡ end = ap (λ r. get_or (choice_values r) 4 0) q in (
             subst (λ n. Highest qualifies_now 8 (some n)) x c.0,
             (
               sym y ∙ ap (λ (g : model.Frame). g.start) c.1,

@@ -1,35 +1,24 @@
 -- Document 01's number, with the values of an accepted call, tells an answer from every other of its kind (`answer-told`, `looked_told`, `stepped-told`; for
 -- a transmit `choice_told` of crate `frames`); and each number and value has an answer: the one from the refusal that an order chooses.
 -- Assumes nothing.
-use Rattle.std.proofs.Common.{◌≡◌, ℕ, cond, sym, refl, ap, arith}
+use Rattle.std.proofs.Common.{◌≡◌, ℕ, cond, sym, refl, ap}
 use mathlib.Core.Option.{Option, none, some}
-use Rattle.rule.specs.declared.Answer.{Answer}
-use Rattle.rule.specs.declared.Answer.TheVariants as answer
+use Rattle.std.specs.Prelude.{Result, Ok, Err}
 use Rattle.rule.specs.declared.Refusal.{Refusal}
-use Rattle.rule.specs.Refusals.{number_of, accepted, numbered, answer_number}
+use Rattle.rule.specs.Refusals.{number_of, accepted, numbered, answer_number, Answer}
 use Rattle.rule.specs.Answers.{answer_of}
 use Rattle.rule.specs.Port.{Frame}
-use Rattle.rule.proofs.Refusals.{number_same}
+use Rattle.rule.proofs.Refusals.{refusal_told, none_some}
 use Rattle.frames.specs.Decision.{choice_of, choice_number}
-use Rattle.port.specs.declared.Looked.{Looked}
-use Rattle.port.specs.declared.Looked.TheVariants as looked
-use Rattle.port.specs.declared.StepAnswer.{StepAnswer}
-use Rattle.port.specs.declared.StepAnswer.TheVariants as stepped
 use Rattle.port.specs.Answers.{looked_number, looked_octet, stepped_number, written_of}
-
-refusal_told : (r s : Refusal) → some (number_of r) ≡ some (number_of s) → r ≡ s
-refusal_told r s e = number_same r s (cc)
-
-none_some : (n : ℕ) → none ≡ some n → ⊥
-none_some n e = let z : ◌≡◌ {A = ℕ} 0 1 = cc in omega arith
 
 pub number_of_lem : (o : Option Refusal) → answer_number (answer_of o) ≡ numbered o
 number_of_lem none = refl
 number_of_lem (some r) = refl
 
-abbrev pub looked_of : Option Refusal → ℕ → Looked
-looked_of none octet = looked.Octet octet
-looked_of (some r) octet = looked.Refused r
+abbrev pub looked_of : Option Refusal → ℕ → Result ℕ Refusal
+looked_of none octet = Ok octet
+looked_of (some r) octet = Err r
 
 pub looked_number_lem : (o : Option Refusal) (octet : ℕ) → looked_number (looked_of o octet) ≡ numbered o
 looked_number_lem none octet = refl
@@ -39,9 +28,9 @@ pub looked_octet_lem : (o : Option Refusal) (octet : ℕ) → looked_octet (look
 looked_octet_lem none octet = refl
 looked_octet_lem (some r) octet = refl
 
-abbrev pub stepped_of : Option Refusal → ℕ → StepAnswer
-stepped_of none n = stepped.Written n
-stepped_of (some r) n = stepped.Refused r
+abbrev pub stepped_of : Option Refusal → ℕ → Result ℕ Refusal
+stepped_of none n = Ok n
+stepped_of (some r) n = Err r
 
 pub stepped-number : (o : Option Refusal) (n : ℕ) → stepped_number (stepped_of o n) ≡ numbered o
 stepped-number none n = refl
@@ -53,19 +42,19 @@ choice_number_lem none (some f) = refl
 choice_number_lem (some r) f = refl
 
 pub answer-told : (r s : Answer) → answer_number r ≡ answer_number s → r ≡ s
-answer-told answer.Done answer.Done e = refl
-answer-told answer.Done (answer.Refused q) e = absurd (none_some (number_of q) e)
-answer-told (answer.Refused q) answer.Done e = absurd (none_some (number_of q) (sym e))
-answer-told (answer.Refused q) (answer.Refused p) e = ap answer.Refused (refusal_told q p e)
+answer-told (Ok a) (Ok b) e = refl
+answer-told (Ok a) (Err q) e = absurd (none_some (number_of q) e)
+answer-told (Err q) (Ok b) e = absurd (none_some (number_of q) (sym e))
+answer-told (Err q) (Err p) e = ap Err (refusal_told q p e)
 
-pub looked_told : (r s : Looked) → looked_number r ≡ looked_number s → looked_octet r ≡ looked_octet s → r ≡ s
-looked_told (looked.Octet o) (looked.Octet q) e f = ap looked.Octet f
-looked_told (looked.Octet o) (looked.Refused q) e f = absurd (none_some (number_of q) e)
-looked_told (looked.Refused q) (looked.Octet o) e f = absurd (none_some (number_of q) (sym e))
-looked_told (looked.Refused q) (looked.Refused p) e f = ap looked.Refused (refusal_told q p e)
+pub looked_told : (r s : Result ℕ Refusal) → looked_number r ≡ looked_number s → looked_octet r ≡ looked_octet s → r ≡ s
+looked_told (Ok o) (Ok q) e f = ap Ok f
+looked_told (Ok o) (Err q) e f = absurd (none_some (number_of q) e)
+looked_told (Err q) (Ok o) e f = absurd (none_some (number_of q) (sym e))
+looked_told (Err q) (Err p) e f = ap Err (refusal_told q p e)
 
-pub stepped-told : (r s : StepAnswer) → stepped_number r ≡ stepped_number s → written_of r ≡ written_of s → r ≡ s
-stepped-told (stepped.Written m) (stepped.Written n) e f = ap stepped.Written f
-stepped-told (stepped.Written m) (stepped.Refused q) e f = absurd (none_some (number_of q) e)
-stepped-told (stepped.Refused q) (stepped.Written m) e f = absurd (none_some (number_of q) (sym e))
-stepped-told (stepped.Refused q) (stepped.Refused p) e f = ap stepped.Refused (refusal_told q p e)
+pub stepped-told : (r s : Result ℕ Refusal) → stepped_number r ≡ stepped_number s → written_of r ≡ written_of s → r ≡ s
+stepped-told (Ok m) (Ok n) e f = ap Ok f
+stepped-told (Ok m) (Err q) e f = absurd (none_some (number_of q) e)
+stepped-told (Err q) (Ok m) e f = absurd (none_some (number_of q) (sym e))
+stepped-told (Err q) (Err p) e f = ap Err (refusal_told q p e)

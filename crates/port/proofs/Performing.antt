@@ -3,11 +3,10 @@
 use Rattle.std.proofs.Common.{◌≡◌, ℕ, ◌<◌, ◌≤◌, Bool, true, false, cond, not, sym, refl, ap, ◌∙◌, true≢false, arith, le-ltb, lt-ltb}
 use mathlib.Core.Option.{Option, none, some}
 use Rattle.rule.specs.Limits.{largest_instant}
-use Rattle.rule.specs.declared.Answer.{Answer}
-use Rattle.rule.specs.declared.Answer.TheVariants.{Done, Refused}
+use Rattle.std.specs.Prelude.{Ok, Err}
 use Rattle.rule.specs.declared.Refusal.{Refusal}
 use Rattle.rule.specs.declared.Refusal.TheVariants.{MalformedPort, AboveLargest}
-use Rattle.rule.specs.Refusals.{first_of, accepted, answer_number}
+use Rattle.rule.specs.Refusals.{first_of, accepted, answer_number, Answer}
 use Rattle.rule.specs.Answers.{answer_of}
 use Rattle.rule.specs.Acts.{Act, GateAct, gates, perform_gates, performed, perform}
 use Rattle.rule.specs.Orders.{act_order, new_order, accepts}
@@ -34,44 +33,44 @@ accepted_none (some r) e = absurd (true≢false (sym e))
 
 module _ (a : Act) (p : Port) where
   -- by its answer
-  performs_by : (r : Acted) → r.answer ≡ answer_of (declines a p) → r.port ≡ after a p → Performs a p r
+  performs_by : (r : Acted Unit) → r.answer ≡ answer_of (declines a p) → r.port ≡ after a p → Performs a p r
   performs_by r e q = record { number = ap answer_number e ∙ number_of_lem (declines a p); port = q }
 
-  pub act-malformed : (r : Acted) → well_formed p ≡ false → r ≡ refused_with MalformedPort p → Performs a p r
+  pub act-malformed : (r : Acted Unit) → well_formed p ≡ false → r ≡ refused_with MalformedPort p → Performs a p r
   unfolding declines after
-  act-malformed r e l = performs_by r (ap (λ (x : Acted). x.answer) l ∙ rw e) (ap (λ (x : Acted). x.port) l ∙ rw e)
+  act-malformed r e l = performs_by r (ap (λ (x : Acted Unit). x.answer) l ∙ rw e) (ap (λ (x : Acted Unit). x.port) l ∙ rw e)
 
   module _ (k : Fine p) (e : accepts a (decode p) ≡ true) (q : Port) (h : q ≡ encode (performed a (decode p))) where
     pub act-fine : Fine q
     act-fine = encoded_fine (performed a (decode p)) q (performed-sound a (decode p) e k.sound) h
 
-    pub act-done : (r : Acted) → well_formed p ≡ true → r ≡ done_with (encode (model.tested (decode q))) → Performs a p r
+    pub act-done : (r : Acted Unit) → well_formed p ≡ true → r ≡ done_with (encode (model.tested (decode q))) → Performs a p r
     unfolding declines after perform accepts
     act-done r w l =
         let z : first_of (act_order a (decode p)) ≡ none = accepted_none (first_of (act_order a (decode p))) e in
         let d : decode q ≡ performed a (decode p) = ap decode h ∙ decode-encode (performed a (decode p)) in
-        performs_by r (ap (λ (x : Acted). x.answer) l ∙ sym (rw (w, z)))
-        (ap (λ (x : Acted). x.port) l ∙ ap (λ m. encode (model.tested m)) d ∙ sym (rw (w, z)))
+        performs_by r (ap (λ (x : Acted Unit). x.answer) l ∙ sym (rw (w, z)))
+        (ap (λ (x : Acted Unit). x.port) l ∙ ap (λ m. encode (model.tested m)) d ∙ sym (rw (w, z)))
 
     -- with no frame being sent the overrun test finds nothing
-    pub act_quiet : (answer : Answer) → answer ≡ Done → well_formed p ≡ true → (q.frame.present ≡ 1 → ⊥) → Performs a p (record { answer = answer; port = q })
+    pub act_quiet : (answer : Answer) → answer ≡ (Ok tt) → well_formed p ≡ true → (q.frame.present ≡ 1 → ⊥) → Performs a p (record { answer = answer; port = q })
     act_quiet answer d w f =
         act-done (record { answer = answer; port = q }) w (λ i. record { answer = d i; port = tested_none q act-fine f i })
 
   module _ (answer : Answer) (is : answer ≡ answer_of (declines a p)) where
-    refused-not : (o : Option Refusal) (r : Refusal) → answer_of o ≡ Refused r → accepted o ≡ false
+    refused-not : (o : Option Refusal) (r : Refusal) → answer_of o ≡ Err r → accepted o ≡ false
     refused-not none r x = let z : ◌≡◌ {A = ℕ} 0 1 = cc in absurd (omega arith)
     refused-not (some q) r x = refl
 
-    done-accepted : (o : Option Refusal) → answer_of o ≡ Done → accepted o ≡ true
+    done-accepted : (o : Option Refusal) → answer_of o ≡ (Ok tt) → accepted o ≡ true
     done-accepted none x = refl
     done-accepted (some q) x = let z : ◌≡◌ {A = ℕ} 0 1 = cc in absurd (omega arith)
 
-    pub act-refused : (r : Refusal) → answer ≡ Refused r → Performs a p (record { answer = answer; port = p })
+    pub act-refused : (r : Refusal) → answer ≡ Err r → Performs a p (record { answer = answer; port = p })
     unfolding after
     act-refused r e = let z = refused-not (declines a p) r (sym is ∙ e) in performs_by (record { answer = answer; port = p }) is (rw z)
 
-    pub act-accepted : answer ≡ Done → (well_formed p ≡ true) × (accepts a (decode p) ≡ true)
+    pub act-accepted : answer ≡ (Ok tt) → (well_formed p ≡ true) × (accepts a (decode p) ≡ true)
     unfolding declines accepts
     act-accepted e = go (well_formed p) (done-accepted (declines a p) (sym is ∙ e))
       where
@@ -89,10 +88,10 @@ gates-is a p g k e = λ i. record { frame = ap (λ (q : Port). q.frame) (sym k.w
 -- a new port
 
 module _ (start octet : ℕ) (q : Port) where
-  pub new-refused : largest_instant < start → q ≡ encode (model.new_port 0 0) → Makes start octet (record { answer = Refused AboveLargest; port = q })
+  pub new-refused : largest_instant < start → q ≡ encode (model.new_port 0 0) → Makes start octet (record { answer = Err AboveLargest; port = q })
   unfolding new_order
   new-refused h e = record { number = rw (lt-ltb largest_instant start h); port = e ∙ sym (rw (lt-ltb largest_instant start h)) }
 
-  pub new-done : start ≤ largest_instant → q ≡ encode (model.new_port start octet) → Makes start octet (record { answer = Done; port = q })
+  pub new-done : start ≤ largest_instant → q ≡ encode (model.new_port start octet) → Makes start octet (record { answer = (Ok tt); port = q })
   unfolding new_order
   new-done h e = record { number = rw (le-ltb largest_instant start h); port = e ∙ sym (rw (le-ltb largest_instant start h)) }

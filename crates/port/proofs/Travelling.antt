@@ -27,8 +27,8 @@ use Rattle.timetable.specs.Coding as timetable
 use Rattle.timetable.specs.Checks as checks
 use Rattle.timetable.specs.Updates.{with_times, clocked, moved_table}
 use Rattle.timetable.proofs.Records.{clock-fine, moved-is}
-use Rattle.course.specs.declared.Course.{Course}
-use Rattle.course.specs.declared.Course.TheVariants as course
+use Rattle.std.specs.Prelude.{Result, Ok, Err}
+use Rattle.course.specs.declared.Reached.{Reached}
 use Rattle.course.specs.Travel as travel
 use Rattle.course.specs.Travel.{travel_declines, Travels}
 use Rattle.course.specs.Columns.{into, instants_of, octets_of}
@@ -38,7 +38,6 @@ use Rattle.frames.specs.Frame.{decode_frame, encode_frame, frame_formed}
 use Rattle.frames.specs.Deciding.{FineFrame}
 use Rattle.frames.proofs.Frames.{frame-fine}
 use Rattle.port.specs.declared.Port.{Port}
-use Rattle.port.specs.declared.StepAnswer.TheVariants as stepped
 use Rattle.port.specs.Record.{well_formed}
 use Rattle.port.specs.Coding.{decode, encode}
 use Rattle.port.specs.Updates.{with_gates, marked_frame, counted_for, forgotten_frame}
@@ -92,17 +91,17 @@ module _ (p : Port) (whole : checks.Fine p.gates) (sent : FineFrame p.frame p.ga
       ∙ ap encode (sym (ticks-jump (t - c) (decode p) (wait_ahead c (timetable.decode p.gates).operating (timetable.decode p.gates).waiting whole.sound.waiting) (frame-ahead c o sent.sound)))
 
 module _ (p : Port) (goal : ℕ) (at at' os os' : List ℕ) (fit : Bool) (is : fit ≡ frame_formed p.frame p.gates.times.clock)
-    (r : Course) (t : Travels fit largest_step goal p.gates at at' os os' r) where
+    (r : Result Reached Refusal) (t : Travels fit largest_step goal p.gates at at' os os' r) where
   -- refused
 
-  pub step_stays : (reason : Refusal) → r ≡ course.Stays reason → Steps p goal at at' os os' (record { answer = stepped.Refused reason; port = p })
+  pub step_stays : (reason : Refusal) → r ≡ Err reason → Steps p goal at at' os os' (record { answer = Err reason; port = p })
   unfolding passes travel.passes reported travel.reported log after_step
   step_stays reason e =
       let d = travels_refused fit largest_step goal p.gates at at' os os' r t reason e in
       let d' : step_declines goal p ≡ some reason = declines-is p goal fit is ∙ d in
       let k : travel.passes fit largest_step goal (min (length at) (length os)) p.gates ≡ 0 = rw d in
       let z : passes p goal (min (length at) (length os)) ≡ 0 = rw d' in
-      subst⁻¹ (λ k. StepsBy k p goal at at' os os' (record { answer = stepped.Refused reason; port = p })) z
+      subst⁻¹ (λ k. StepsBy k p goal at at' os os' (record { answer = Err reason; port = p })) z
       (record {
         number = rw d';
         written = refl;
@@ -113,7 +112,7 @@ module _ (p : Port) (goal : ℕ) (at at' os os' : List ℕ) (fit : Bool) (is : f
 
   -- accepted
 
-  module _ (n e : ℕ) (q : r ≡ course.Goes n e) where
+  module _ (n e : ℕ) (q : r ≡ Ok (record { written = n; at = e })) where
     arrives : Arrives fit largest_step goal p.gates at at' os os' n e
     arrives = travels_arrives fit largest_step goal p.gates at at' os os' r t n e q
 
@@ -153,14 +152,14 @@ module _ (p : Port) (goal : ℕ) (at at' os os' : List ℕ) (fit : Bool) (is : f
     pub step-goes : (hit : Bool) → MetOn (gates.shown (timetable.decode p.gates)) p.frame clock e n at' os' hit
         → (v : List ℕ) → v ≡ counted_for hit p.frame p.overruns → (s : Frame) → s ≡ marked_frame hit p.frame → (f : Frame) → f ≡ forgotten_frame e s
         → (g : Timetable) → g ≡ moved_table e p.gates
-        → Steps p goal at at' os os' (record { answer = stepped.Written n; port = record { frame = f; gates = g; overruns = v } })
+        → Steps p goal at at' os os' (record { answer = Ok n; port = record { frame = f; gates = g; overruns = v } })
     unfolding passes after_step
     step-goes hit met v counting s seeing f forgetting g moving =
         let a = arrives in
         let w = a.walk in
         let d : step_declines goal p ≡ none = declines-is p goal fit is ∙ a.declines in
         let z : passes p goal (min (length at) (length os)) ≡ e - clock = rw d reached in
-        subst⁻¹ (λ k. StepsBy k p goal at at' os os' (record { answer = stepped.Written n; port = record { frame = f; gates = g; overruns = v } })) z
+        subst⁻¹ (λ k. StepsBy k p goal at at' os os' (record { answer = Ok n; port = record { frame = f; gates = g; overruns = v } })) z
         (record {
           number = rw d;
           written = w.count ∙ ap length told_is;
@@ -171,7 +170,7 @@ module _ (p : Port) (goal : ℕ) (at at' os os' : List ℕ) (fit : Bool) (is : f
 
     -- with no frame being sent and nothing falling due, only the clock moves
     pub step_still : is_marked p.frame.present || (is_marked p.gates.times.waits && leb p.gates.times.change e) ≡ false
-        → Steps p goal at at' os os' (record { answer = stepped.Written n; port = with_gates (with_times (clocked e p.gates.times) p.gates) p })
+        → Steps p goal at at' os os' (record { answer = Ok n; port = with_gates (with_times (clocked e p.gates.times) p.gates) p })
     step_still z =
         let a = neither (is_marked p.frame.present) (is_marked p.gates.times.waits && leb p.gates.times.change e) z in
         step-goes false (λ _. none_met p.frame a.0 (gates.shown (timetable.decode p.gates)) clock (e - clock)) p.overruns refl p.frame refl p.frame

@@ -4,43 +4,37 @@
 -- Assumes nothing.
 use Rattle.std.proofs.Common.{◌≡◌, ℕ, List, sym, ◌∙◌}
 use Rattle.rule.specs.Acts.{Act}
+use Rattle.rule.specs.declared.Refusal.{Refusal}
+use Rattle.std.specs.Prelude.{Result, Option}
+use Rattle.frames.specs.declared.Sending.{Sending}
 use Rattle.frames.proofs.Unique.{choice_told}
 use Rattle.port.specs.declared.Port.{Port}
 use Rattle.port.specs.declared.Acted.{Acted}
-use Rattle.port.specs.declared.Looked.{Looked}
-use Rattle.port.specs.declared.Stepped.{Stepped}
-use Rattle.port.specs.declared.Transmitted.{Transmitted}
 use Rattle.port.specs.Acts.{Performs, Looks, Makes}
 use Rattle.port.specs.Step.{Steps}
 use Rattle.port.specs.Transmit.{Transmits}
 use Rattle.port.proofs.Numbers.{answer-told, looked_told, stepped-told}
 
 -- two outcomes with the same answer and the same port are one
-same-acted : (r s : Acted) → r.answer ≡ s.answer → r.port ≡ s.port → r ≡ s
+same-acted : {A : Type 0} (r s : Acted A) → r.answer ≡ s.answer → r.port ≡ s.port → r ≡ s
 same-acted r s e f i = record { answer = e i; port = f i }
 
-same-stepped : (r s : Stepped) → r.answer ≡ s.answer → r.port ≡ s.port → r ≡ s
-same-stepped r s e f i = record { answer = e i; port = f i }
-
-same_transmitted : (r s : Transmitted) → r.answer ≡ s.answer → r.port ≡ s.port → r ≡ s
-same_transmitted r s e f i = record { answer = e i; port = f i }
-
-pub performs_unique : (a : Act) (p : Port) (r s : Acted) → Performs a p r → Performs a p s → r ≡ s
+pub performs_unique : (a : Act) (p : Port) (r s : Acted Unit) → Performs a p r → Performs a p s → r ≡ s
 performs_unique a p r s k l = same-acted r s (answer-told r.answer s.answer (k.number ∙ sym l.number)) (k.port ∙ sym l.port)
 
-pub makes_unique : (start octet : ℕ) (r s : Acted) → Makes start octet r → Makes start octet s → r ≡ s
+pub makes_unique : (start octet : ℕ) (r s : Acted Unit) → Makes start octet r → Makes start octet s → r ≡ s
 makes_unique start octet r s k l = same-acted r s (answer-told r.answer s.answer (k.number ∙ sym l.number)) (k.port ∙ sym l.port)
 
-pub looks_unique : (p : Port) (t : ℕ) (r s : Looked) → Looks p t r → Looks p t s → r ≡ s
+pub looks_unique : (p : Port) (t : ℕ) (r s : Result ℕ Refusal) → Looks p t r → Looks p t s → r ≡ s
 looks_unique p t r s k l = looked_told r s (k.number ∙ sym l.number) (k.octet ∙ sym l.octet)
 
-pub steps_unique : (p : Port) (goal : ℕ) (at os : List ℕ) (r : Stepped) (at₁ os₁ : List ℕ) (s : Stepped) (at₂ os₂ : List ℕ)
+pub steps_unique : (p : Port) (goal : ℕ) (at os : List ℕ) (r : Acted ℕ) (at₁ os₁ : List ℕ) (s : Acted ℕ) (at₂ os₂ : List ℕ)
     → Steps p goal at at₁ os os₁ r → Steps p goal at at₂ os os₂ s → (r ≡ s) × ((at₁ ≡ at₂) × (os₁ ≡ os₂))
 steps_unique p goal at os r at₁ os₁ s at₂ os₂ k l =
     let e = stepped-told r.answer s.answer (k.number ∙ sym l.number) (k.written ∙ sym l.written) in
-    (same-stepped r s e (k.port ∙ sym l.port), (k.instants ∙ sym l.instants, k.octets ∙ sym l.octets))
+    (same-acted r s e (k.port ∙ sym l.port), (k.instants ∙ sym l.instants, k.octets ∙ sym l.octets))
 
-pub transmits_unique : (heads : List ℕ) (speed : ℕ) (p : Port) (r s : Transmitted) → Transmits heads speed p r → Transmits heads speed p s → r ≡ s
+pub transmits_unique : (heads : List ℕ) (speed : ℕ) (p : Port) (r s : Acted (Option Sending)) → Transmits heads speed p r → Transmits heads speed p s → r ≡ s
 transmits_unique heads speed p r s k l =
     let e = choice_told r.answer s.answer (k.number ∙ sym l.number) (k.values ∙ sym l.values) in
-    same_transmitted r s e (k.port ∙ sym l.port)
+    same-acted r s e (k.port ∙ sym l.port)

@@ -1,7 +1,7 @@
 -- Document 01, 'What the gates show' and the orders of 'Numbers returned': what new, the acts and look promise of a record. 14 comes first, then the
 -- order of the call; a refused act hands back the record that it got, a refused `new` the record of all zeros.
 -- Assumes nothing.
-use Rattle.std.specs.Prelude.{◌≡◌, ℕ, Bool, cond, not, List, ◌∷◌}
+use Rattle.std.specs.Prelude.{◌≡◌, ℕ, Bool, cond, not, List, ◌∷◌, Result}
 use Rattle.std.proofs.Math.Option.{Option}
 use Rattle.rule.specs.declared.Refusal.{Refusal}
 use Rattle.rule.specs.declared.Refusal.TheVariants.{MalformedPort}
@@ -14,7 +14,6 @@ use Rattle.gatelist.specs.declared.GateList.{GateList}
 use Rattle.gatelist.specs.Coding.{list_of}
 use Rattle.port.specs.declared.Port.{Port}
 use Rattle.port.specs.declared.Acted.{Acted}
-use Rattle.port.specs.declared.Looked.{Looked}
 use Rattle.port.specs.Record.{well_formed}
 use Rattle.port.specs.Coding.{decode, encode}
 use Rattle.port.specs.Answers.{looked_number, looked_octet}
@@ -31,7 +30,7 @@ declines a p = formed_first p (act_order a (decode p))
 unfoldable pub after : Act → Port → Port
 after a p = cond (accepted (declines a p)) (encode (perform a (decode p))) p
 
-pub record Performs (a : Act) (p : Port) (r : Acted) : Type 0 where
+pub record Performs (a : Act) (p : Port) (r : Acted Unit) : Type 0 where
   pub number : answer_number r.answer ≡ numbered (declines a p)
   pub port : r.port ≡ after a p
 
@@ -45,12 +44,12 @@ submission list numerator denominator extension base =
 unfoldable pub look_declines : ℕ → Port → Option Refusal
 look_declines t p = formed_first p (look_order t (decode p).gates)
 
-pub record Looks (p : Port) (t : ℕ) (r : Looked) : Type 0 where
+pub record Looks (p : Port) (t : ℕ) (r : Result ℕ Refusal) : Type 0 where
   pub number : looked_number r ≡ numbered (look_declines t p)
   pub octet : looked_octet r ≡ cond (accepted (look_declines t p)) (shown (decode p).gates t) 0
 
 -- a new port
 
-pub record Makes (start standing : ℕ) (r : Acted) : Type 0 where
+pub record Makes (start standing : ℕ) (r : Acted Unit) : Type 0 where
   pub number : answer_number r.answer ≡ numbered (first_of (new_order start))
   pub port : r.port ≡ cond (accepted (first_of (new_order start))) (encode (new_port start standing)) (encode (new_port 0 0))

@@ -12,7 +12,7 @@ use Rattle.rule.specs.Machine.{ticks, log, reach}
 use Rattle.rule.specs.Machines.{machine}
 use Rattle.course.specs.Columns.{into, instants_of, octets_of}
 use Rattle.port.specs.declared.Port.{Port}
-use Rattle.port.specs.declared.Stepped.{Stepped}
+use Rattle.port.specs.declared.Acted.{Acted}
 use Rattle.port.specs.Coding.{decode, encode}
 use Rattle.port.specs.Answers.{stepped_number, written_of}
 use Rattle.port.specs.Acts.{formed_first}
@@ -33,12 +33,12 @@ unfoldable pub after_step : Port → ℕ → ℕ → Port
 after_step p goal k = cond (accepted (step_declines goal p)) (encode (ticks machine k (decode p))) p
 
 -- a step that lets k instants pass
-pub record StepsBy (k : ℕ) (p : Port) (goal : ℕ) (at at' os os' : List ℕ) (r : Stepped) : Type 0 where
+pub record StepsBy (k : ℕ) (p : Port) (goal : ℕ) (at at' os os' : List ℕ) (r : Acted ℕ) : Type 0 where
   pub number : stepped_number r.answer ≡ numbered (step_declines goal p)
   pub written : written_of r.answer ≡ length (reported p k)
   pub port : r.port ≡ after_step p goal k
   pub instants : at' ≡ into (instants_of (reported p k)) at
   pub octets : os' ≡ into (octets_of (reported p k)) os
 
-abbrev pub Steps : Port → ℕ → List ℕ → List ℕ → List ℕ → List ℕ → Stepped → Type 0
+abbrev pub Steps : Port → ℕ → List ℕ → List ℕ → List ℕ → List ℕ → Acted ℕ → Type 0
 Steps p goal at at' os os' r = StepsBy (passes p goal (min (length at) (length os))) p goal at at' os os' r

@@ -1,7 +1,7 @@
 -- The records that the code makes of a record, field by field: private to the crate but for `with_frame`, which the promise of transmit names. What they mean
 -- for the port is in the law files of proofs/.
 -- Assumes nothing.
-use Rattle.std.specs.Prelude.{ℕ, Bool, true, false, cond, ◌&&◌, List, nat_le, slice_index, slice_set}
+use Rattle.std.specs.Prelude.{ℕ, Bool, true, false, cond, ◌&&◌, List, nat_le, slice_index, slice_set, Ok, Err}
 use Rattle.rule.specs.Timetable.{raise}
 use Rattle.rule.specs.Acts.{GateAct, Submission, submit, strict}
 use Rattle.timetable.specs.declared.Times.{Times}
@@ -11,7 +11,6 @@ use Rattle.timetable.specs.Checks.{begun_by}
 use Rattle.frames.specs.declared.Frame.{Frame}
 use Rattle.frames.specs.Frame.{no_frame}
 use Rattle.rule.specs.declared.Refusal.{Refusal}
-use Rattle.rule.specs.declared.Answer.TheVariants as answer
 use Rattle.port.specs.declared.Port.{Port}
 use Rattle.port.specs.declared.Acted.{Acted}
 
@@ -44,8 +43,8 @@ abbrev pub forgotten_frame : ℕ → Frame → Frame
 forgotten_frame t f = cond (is_marked f.present && nat_le f.end t) no_frame f
 
 -- an answer with the port that is handed back
-abbrev pub done_with : Port → Acted
-done_with p = record { answer = answer.Done; port = p }
+abbrev pub done_with : Port → Acted Unit
+done_with p = record { answer = (Ok tt); port = p }
 
-abbrev pub refused_with : Refusal → Port → Acted
-refused_with r p = record { answer = answer.Refused r; port = p }
+abbrev pub refused_with : Refusal → Port → Acted Unit
+refused_with r p = record { answer = Err r; port = p }

@@ -6,107 +6,86 @@ ghost use Rattle.rule.specs.Acts as model;
 ghost use Rattle.port.specs.Coding.{decode, encode};
 ghost use Rattle.port.specs.Checks.{Fine};
 ghost use Rattle.port.specs.Acts.{Performs, Makes};
-ghost use Rattle.port.specs.Updates.{refused_with, done_with, with_gates};
-ghost use Rattle.timetable.specs.Updates.{with_times};
+ghost use Rattle.port.specs.Updates.{refused_with, done_with};
 
 use crate::overrun::tested;
-use crate::record::{fresh, well_formed};
 use crate::{Acted, Port};
-use rule::{Answer, Refusal};
-use timetable::Times;
-
-// The port with other numbers of its timetable.
-fn with_times(p: Port, x: Times) -> Port
-    ensures { result ≡ with_gates (with_times x p.gates) p }
-{
-    let mut g = p.gates;
-    g.times = x;
-    let mut q = p;
-    q.gates = g;
-    q
-}
+use rule::Refusal;
 
 // The answer to a malformed port.
-fn malformed(p: Port) -> Acted
+fn malformed(p: Port) -> Acted<()>
     ensures { result ≡ refused_with MalformedPort p }
 {
     Acted {
-        answer: Answer::Refused(Refusal::MalformedPort),
+        answer: Err(Refusal::MalformedPort),
         port: p,
     }
 }
 
 // The answer to an act that made this port, after the overrun test.
-pub fn done(p: Port) -> Acted
+pub fn done(p: Port) -> Acted<()>
     requires { Fine p }
     ensures { result ≡ done_with (encode (port.tested (decode p))) }
 {
     let port = tested(p);
     Acted {
-        answer: Answer::Done,
+        answer: Ok(()),
         port,
     }
 }
 
 impl Port {
     // A port at an instant, off, with a standing octet and zero counters. Refused: 9.
-    pub fn new(start: u64, standing: u8) -> Acted
+    pub fn new(start: u64, standing: u8) -> Acted<()>
         ensures { Makes start standing result }
     {
         if Port::LARGEST_INSTANT < start {
-            let port = fresh(0, 0);
+            let port = Port::fresh(0, 0);
             return Acted {
-                answer: Answer::Refused(Refusal::AboveLargest),
+                answer: Err(Refusal::AboveLargest),
                 port,
             };
         }
-        let port = fresh(start, standing);
+        let port = Port::fresh(start, standing);
         Acted {
-            answer: Answer::Done,
+            answer: Ok(()),
             port,
         }
     }
 
     // Sets the mark, also if it is set. Refused: 14.
-    pub fn on(self) -> Acted
+    pub fn on(self) -> Acted<()>
         ensures { Performs (model.gates model.on) self result }
     {
-        if !well_formed(self) {
+        if !self.well_formed() {
             return malformed(self);
         }
-        let x = self.gates.times;
-        let y = Times { on: 1, ..x };
-        let p = with_times(self, y);
+        let mut p = self;
+        p.gates.times.on = 1;
         done(p)
     }
 
     // Clears the mark, and discards the operating and the waiting configuration for good. Refused: 14.
-    pub fn off(self) -> Acted
+    pub fn off(self) -> Acted<()>
         ensures { Performs (model.gates model.off) self result }
     {
-        if !well_formed(self) {
+        if !self.well_formed() {
             return malformed(self);
         }
-        let g = self.gates;
-        let gates = timetable::cleared(g);
         let mut p = self;
-        p.gates = gates;
+        p.gates = p.gates.cleared();
         done(p)
     }
 
     // Replaces the standing octet. Refused: 14.
-    pub fn standing(self, octet: u8) -> Acted
+    pub fn standing(self, octet: u8) -> Acted<()>
         ensures { Performs (model.gates (model.standing octet)) self result }
     {
-        if !well_formed(self) {
+        if !self.well_formed() {
             return malformed(self);
         }
-        let x = self.gates.times;
-        let y = Times {
-            standing: octet,
-            ..x
-        };
-        let p = with_times(self, y);
+        let mut p = self;
+        p.gates.times.standing = octet;
         done(p)
     }
 }

@@ -10,8 +10,9 @@ mod stepping;
 mod submitting;
 mod transmitting;
 
-use frames::{Choice, Frame};
-use rule::{Answer, Refusal};
+use frames::Frame;
+use gatelist::GateList;
+use rule::Refusal;
 use timetable::Timetable;
 
 // The port: the frame being sent, the timetable of its gates (clock, mark, standing octet, what operates, what waits, ConfigChangeError), and the eight
@@ -26,46 +27,18 @@ pub struct Port {
 
 impl Port {
     // The largest instant, in nanoseconds.
-    pub const LARGEST_INSTANT: u64 = 9_000_000_000_000_000_000;
+    pub const LARGEST_INSTANT: u64 = Timetable::LARGEST_INSTANT;
     // The longest step.
     pub const LARGEST_STEP: u64 = 1_000_000_000;
     // The entries of the longest list, SupportedListMax.
-    pub const LARGEST_LIST: usize = 128;
+    pub const LARGEST_LIST: usize = GateList::MAX;
     // The longest cycle.
-    pub const LARGEST_CYCLE: u64 = 1_000_000_000;
+    pub const LARGEST_CYCLE: u64 = Timetable::LARGEST_CYCLE;
 }
 
-// An act's answer, and the port after it.
+// What an act answers, which is a value of its own or refused for a reason, and the port after it.
 #[derive(Clone, Copy)]
-pub struct Acted {
-    pub answer: Answer,
-    pub port: Port,
-}
-
-// What a look answers: the octet shown, or refused for a reason.
-#[derive(Clone, Copy)]
-pub enum Looked {
-    Octet(u8),
-    Refused(Refusal),
-}
-
-// What a step answers: how many changes it wrote, or refused for a reason.
-#[derive(Clone, Copy)]
-pub enum StepAnswer {
-    Written(usize),
-    Refused(Refusal),
-}
-
-// A step's answer, and the port after it.
-#[derive(Clone, Copy)]
-pub struct Stepped {
-    pub answer: StepAnswer,
-    pub port: Port,
-}
-
-// A transmit's answer, and the port after it.
-#[derive(Clone, Copy)]
-pub struct Transmitted {
-    pub answer: Choice,
+pub struct Acted<T> {
+    pub answer: Result<T, Refusal>,
     pub port: Port,
 }

@@ -8,7 +8,6 @@ ghost use Rattle.port.specs.Updates.{marked_frame, counted_for};
 
 use crate::Port;
 use frames::Frame;
-use timetable::shown_at;
 
 // The frame on the wire at an instant, not counted, has its gate closed in the octet.
 fn shut(f: Frame, octet: u8, t: u64) -> bool
@@ -35,8 +34,7 @@ pub fn counted(overruns: [u64; 8], f: Frame, b: bool) -> [u64; 8]
     let mut v = overruns;
     let i = f.class as usize;
     if (b & (f.present == 1)) & (f.class <= 7) {
-        let n = std::num::wrapping_add_u64(v[i], 1);
-        v[i] = n;
+        v[i] = v[i].wrapping_add(1);
     }
     v
 }
@@ -50,21 +48,11 @@ pub fn tested(p: Port) -> Port
     if f.present != 1 {
         return p;
     }
-    let x = p.gates.times;
-    let octet = shown_at(
-        x,
-        &p.gates.octets,
-        &p.gates.intervals,
-        &p.gates.newoctets,
-        &p.gates.newintervals,
-        x.clock,
-    );
-    let met = shut(f, octet, x.clock);
-    let v = p.overruns;
-    let frame = marked(f, met);
-    let overruns = counted(v, f, met);
+    let t = p.gates.times.clock;
+    let octet = p.gates.shown_at(t);
+    let met = shut(f, octet, t);
     let mut q = p;
-    q.frame = frame;
-    q.overruns = overruns;
+    q.frame = marked(f, met);
+    q.overruns = counted(p.overruns, f, met);
     q
 }

@@ -5,33 +5,27 @@ ghost use Rattle.port.specs.Coding.{encode};
 ghost use Rattle.port.specs.Checks.{Checked};
 
 use crate::Port;
+use frames::Frame;
+use timetable::Timetable;
 
-// Whether none of the conditions of 14 fails.
-pub fn well_formed(p: Port) -> bool
-    ensures { Checked p result }
-{
-    let x = p.gates.times;
-    let f = p.frame;
-    let timed = timetable::formed(
-        x,
-        &p.gates.octets,
-        &p.gates.intervals,
-        &p.gates.newoctets,
-        &p.gates.newintervals,
-    );
-    let sent = frames::frame_formed(f, x.clock);
-    timed & sent
-}
+impl Port {
+    // Whether none of the conditions of 14 fails.
+    pub(crate) fn well_formed(&self) -> bool
+        ensures { Checked self.now result }
+    {
+        let timed = self.gates.formed();
+        let sent = self.frame.formed(self.gates.times.clock);
+        timed & sent
+    }
 
-// A port that is off, at an instant, with a standing octet and zero counters.
-pub fn fresh(start: u64, octet: u8) -> Port
-    ensures { result ≡ encode (new_port start octet) }
-{
-    let frame = frames::no_frame();
-    let gates = timetable::fresh(start, octet);
-    Port {
-        frame,
-        gates,
-        overruns: [0u64; 8],
+    // A port that is off, at an instant, with a standing octet and zero counters.
+    pub(crate) fn fresh(start: u64, octet: u8) -> Self
+        ensures { result ≡ encode (new_port start octet) }
+    {
+        Port {
+            frame: Frame::none(),
+            gates: Timetable::new(start, octet),
+            overruns: [0u64; 8],
+        }
     }
 }

@@ -10,10 +10,10 @@ ghost use Rattle.port.specs.Meeting.{Legible, MetBy, MetOn};
 ghost use Rattle.port.specs.Step.{Steps};
 
 use crate::overrun::{counted, marked};
-use crate::{Port, StepAnswer, Stepped};
-use course::{Course, travel};
+use crate::{Acted, Port};
+use course::{Reached, travel};
 use frames::Frame;
-use timetable::{Times, most, shown_at};
+use timetable::Timetable;
 
 // A frame being sent, not counted, whose gate is closed in the octet at an instant from lo on, before hi and before its last octet is out.
 fn shut_in(f: Frame, octet: u8, lo: u64, hi: u64) -> bool
@@ -23,25 +23,17 @@ fn shut_in(f: Frame, octet: u8, lo: u64, hi: u64) -> bool
     (f.present == 1) & (!(f.counted == 1) & ((lo < hi) & ((lo < f.last) & !is_open)))
 }
 
-// Whether a frame met a closed gate at an instant after the clock and up to end, by the octet at the clock and the changes written since.
-fn met(
-    f: Frame,
-    octet: u8,
-    clock: u64,
-    end: u64,
-    written: usize,
-    instants: &[u64],
-    octets: &[u8],
-) -> bool
-    requires { Legible clock end written instants.now octets.now }
-    ensures { MetBy f octet clock end written instants.now octets.now result }
+// Whether a frame met a closed gate at an instant after the clock and up to the one that a travel reached, by the octet at the clock and the changes written since.
+fn met(f: Frame, octet: u8, clock: u64, reached: Reached, instants: &[u64], octets: &[u8]) -> bool
+    requires { Legible clock reached.at reached.written instants.now octets.now }
+    ensures { MetBy f octet clock reached.at reached.written instants.now octets.now result }
 {
     let mut from = clock;
     let mut shown = octet;
-    let mut i: usize = 0;
-    while i < written {
+    // By index: of each buffer the first places alone are written.
+    for i in 0..reached.written {
         let change = instants[i];
-        if shut_in(f, shown, most(from, clock + 1), change) {
+        if shut_in(f, shown, from.max(clock + 1), change) {
             return true;
         }
         if f.last <= change {
@@ -49,32 +41,20 @@ fn met(
         }
         from = change;
         shown = octets[i];
-        i += 1;
     }
-    shut_in(f, shown, most(from, clock + 1), end + 1)
+    shut_in(f, shown, from.max(clock + 1), reached.at + 1)
 }
 
-// The same for a timetable whose lists stand in lent arrays; with no frame being sent nothing is looked at.
-fn met_on<'a>(
-    x: Times,
-    os: &'a [u8; 128],
-    vs: &'a [u32; 128],
-    ws: &'a [u8; 128],
-    zs: &'a [u32; 128],
-    f: Frame,
-    end: u64,
-    written: usize,
-    instants: &[u64],
-    octets: &[u8],
-) -> bool
-    requires { Legible x.clock end written instants.now octets.now }
-    ensures { MetOn (shown (timetable.decode (record { times = x; octets = os.now; intervals = vs.now; newoctets = ws.now; newintervals = zs.now }))) f x.clock end written instants.now octets.now result }
+// The same for a timetable; with no frame being sent nothing is looked at.
+fn met_on(g: &Timetable, f: Frame, reached: Reached, instants: &[u64], octets: &[u8]) -> bool
+    requires { Legible g.now.times.clock reached.at reached.written instants.now octets.now }
+    ensures { MetOn (shown (timetable.decode g.now)) f g.now.times.clock reached.at reached.written instants.now octets.now result }
 {
     if f.present != 1 {
         return false;
     }
-    let octet = shown_at(x, os, vs, ws, zs, x.clock);
-    met(f, octet, x.clock, end, written, instants, octets)
+    let clock = g.times.clock;
+    met(f, g.shown_at(clock), clock, reached, instants, octets)
 }
 
 // The frame forgotten, if its end has come by t.
@@ -82,69 +62,46 @@ fn forgotten(f: Frame, t: u64) -> Frame
     ensures { result ≡ forgotten_frame t f }
 {
     if (f.present == 1) & (f.end <= t) {
-        return frames::no_frame();
+        return Frame::none();
     }
     f
 }
 
 impl Port {
     // Moves the clock to a goal and reports the changes. Refused: 14, 9, 10, 11.
-    pub fn step(self, goal: u64, instants: &mut [u64], octets: &mut [u8]) -> Stepped
+    pub fn step(self, goal: u64, instants: &mut [u64], octets: &mut [u8]) -> Acted<usize>
         ensures { Steps self goal instants.old instants.new octets.old octets.new result }
     {
         let x = self.gates.times;
         let f = self.frame;
         let mut p = self;
-        let sent = frames::frame_formed(f, x.clock);
-        let c = travel(
-            x,
-            &p.gates.octets,
-            &p.gates.intervals,
-            &p.gates.newoctets,
-            &p.gates.newintervals,
-            sent,
-            Port::LARGEST_STEP,
-            goal,
-            instants,
-            octets,
-        );
+        let sent = f.formed(x.clock);
+        let c = travel(&p.gates, sent, Port::LARGEST_STEP, goal, instants, octets);
         match c {
-            Course::Stays(reason) => Stepped {
-                answer: StepAnswer::Refused(reason),
+            Err(reason) => Acted {
+                answer: Err(reason),
                 port: p,
             },
-            Course::Goes(written, end) => {
+            Ok(reached) => {
+                let Reached { written, at: end } = reached;
                 let due = (x.waits == 1) & (x.change <= end);
                 if !((f.present == 1) | due) {
                     p.gates.times.clock = end;
-                    return Stepped {
-                        answer: StepAnswer::Written(written),
+                    return Acted {
+                        answer: Ok(written),
                         port: p,
                     };
                 }
-                let hit = met_on(
-                    x,
-                    &p.gates.octets,
-                    &p.gates.intervals,
-                    &p.gates.newoctets,
-                    &p.gates.newintervals,
-                    f,
-                    end,
-                    written,
-                    instants,
-                    octets,
-                );
-                let v = p.overruns;
-                let g = p.gates;
-                let overruns = counted(v, f, hit);
+                let hit = met_on(&p.gates, f, reached, instants, octets);
+                let overruns = counted(p.overruns, f, hit);
                 let seen = marked(f, hit);
                 let frame = forgotten(seen, end);
-                let gates = timetable::moved(g, end);
+                let gates = p.gates.moved(end);
                 p.overruns = overruns;
                 p.frame = frame;
                 p.gates = gates;
-                Stepped {
-                    answer: StepAnswer::Written(written),
+                Acted {
+                    answer: Ok(written),
                     port: p,
                 }
             }

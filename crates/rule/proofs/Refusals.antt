@@ -1,14 +1,17 @@
--- Document 01, 'Numbers returned when a call declines': the numbers tell the refusals apart, and 0 is none of them.
+-- Document 01, 'Numbers returned when a call declines': the numbers tell the refusals apart, and 0 is none of them; a chain of tests is their order.
 -- Assumes nothing.
 use mathlib.Core.Path.{◌≡◌, refl, ap, sym, ◌∙◌}
-use mathlib.Core.List.{[], ◌∷◌}
+use mathlib.Core.Bool.{Bool, true, false, cond}
+use mathlib.Core.List.{List, [], ◌∷◌}
 use mathlib.Core.Option.{Option, none, some}
 use Prim.Native.Nat.{ℕ}
 use native.Mathlib.Omega.{arith}
 use lib.ListN.{get_or}
 use Rattle.rule.specs.declared.Refusal.{Refusal}
 use Rattle.rule.specs.declared.Refusal.TheVariants.{CutShort, Operation, LengthOctet, ZeroInterval, ListLength, SwitchedOff, ChangeWaits, CycleTime, AboveLargest, BeforeClock, StepTooLong, HeadLength, Speed, MalformedPort, MalformedSheet, BufferShort, FrameSending}
-use Rattle.rule.specs.Refusals.{number_of}
+use Rattle.std.specs.Prelude.{Ok, Err}
+use Rattle.rule.specs.Refusals.{number_of, first_of, Answer}
+use Rattle.rule.specs.Answers.{first_answer, answer_of}
 
 -- the refusal of a number
 refusal_of : ℕ → Option Refusal
@@ -48,3 +51,25 @@ number-some r e =
     let q : some r ≡ none = sym (refusal_number r) ∙ ap refusal_of e in
     let z : ◌≡◌ {A = ℕ} 0 1 = cc in
     omega arith
+
+-- an answer's number tells its refusal, and a refusal from an accepted call
+pub refusal_told : (r s : Refusal) → some (number_of r) ≡ some (number_of s) → r ≡ s
+refusal_told r s e = number_same r s (cc)
+
+pub none_some : (n : ℕ) → none ≡ some n → ⊥
+none_some n e = let z : ◌≡◌ {A = ℕ} 0 1 = cc in omega arith
+
+-- a chain of tests answers what their order declines with; the chain of no test, and one test more in front
+pub record Chain (l : List (Bool × Refusal)) (a : Answer) : Type 0 where
+  pub answers : a ≡ answer_of (first_of l)
+
+pub chain_none : Chain [] (Ok tt)
+chain_none = record { answers = refl }
+
+pub chain_more : {b : Bool} {r : Refusal} {l : List (Bool × Refusal)} {rest a : Answer} → a ≡ first_answer b r rest → Chain l rest → Chain ((b, r) ∷ l) a
+unfolding first_answer
+chain_more {b} {r} {l} {rest} {a} e q = record { answers = e ∙ go b }
+  where
+    go : (b : Bool) → cond b (Err r) rest ≡ answer_of (cond b (some r) (first_of l))
+    go true = refl
+    go false = q.answers

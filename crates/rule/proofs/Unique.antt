@@ -4,7 +4,7 @@ use mathlib.Core.Path.{◌≡◌, sym, ◌∙◌}
 use mathlib.Core.Bool.{Bool}
 use Prim.Native.Nat.{ℕ}
 use Rattle.rule.specs.declared.Refusal.{Refusal}
-use Rattle.rule.specs.declared.Answer.{Answer}
+use Rattle.rule.specs.Refusals.{Answer}
 use Rattle.rule.specs.Answers.{Numbers, First}
 
 pub number_unique : (r : Refusal) (n m : ℕ) → Numbers r n → Numbers r m → n ≡ m

@@ -1,11 +1,9 @@
 -- Document 01, 'Numbers returned when a call declines': the number of each refusal, and how an order of tests chooses one. The orders themselves
 -- are in `Orders`, beside the acts they belong to; reading and writing a list have theirs with the list's octets.
 -- Assumes nothing.
-use Rattle.std.specs.Prelude.{Bool, true, false, cond, List, [], ◌∷◌, ℕ}
+use Rattle.std.specs.Prelude.{Bool, true, false, cond, List, [], ◌∷◌, ℕ, Result, Ok, Err}
 use Rattle.std.proofs.Math.Option.{Option, none, some}
 use Rattle.rule.specs.declared.Refusal.{Refusal}
-use Rattle.rule.specs.declared.Answer.{Answer}
-use Rattle.rule.specs.declared.Answer.TheVariants as answer
 use Rattle.rule.specs.declared.Refusal.TheVariants.{CutShort, Operation, LengthOctet, ZeroInterval, ListLength, SwitchedOff, ChangeWaits, CycleTime, AboveLargest, BeforeClock, StepTooLong, HeadLength, Speed, MalformedPort, MalformedSheet, BufferShort, FrameSending}
 
 abbrev pub number_of : Refusal → ℕ
@@ -37,11 +35,18 @@ abbrev pub accepted : Option Refusal → Bool
 accepted none = true
 accepted (some r) = false
 
--- the number of a refusal, none if there is none; and that of an answer
+-- the number of a refusal, none if there is none; and that of an answer, whatever an accepted call answers
 abbrev pub numbered : Option Refusal → Option ℕ
 numbered none = none
 numbered (some r) = some (number_of r)
 
+-- what an act answers: done, or refused for a reason
+abbrev pub Answer : Type 0
+Answer = Result Unit Refusal
+
+abbrev pub number_in : {A : Type 0} → Result A Refusal → Option ℕ
+number_in (Ok _) = none
+number_in (Err r) = some (number_of r)
+
 abbrev pub answer_number : Answer → Option ℕ
-answer_number answer.Done = none
-answer_number (answer.Refused r) = some (number_of r)
+answer_number r = number_in r

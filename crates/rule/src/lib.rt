@@ -4,7 +4,7 @@
 
 ghost use Rattle.rule.specs.Answers.{Numbers, First};
 
-#[derive(Clone, Copy)]
+#[derive(Clone, Copy, Debug, PartialEq, Eq)]
 pub enum Refusal {
     CutShort,
     Operation,
@@ -26,44 +26,36 @@ pub enum Refusal {
 }
 
 // Document 01's number of a refusal, 1 to 17.
-pub fn number(r: Refusal) -> u8
-    ensures { Numbers r result }
-{
-    match r {
-        Refusal::CutShort => 1,
-        Refusal::Operation => 2,
-        Refusal::LengthOctet => 3,
-        Refusal::ZeroInterval => 4,
-        Refusal::ListLength => 5,
-        Refusal::SwitchedOff => 6,
-        Refusal::ChangeWaits => 7,
-        Refusal::CycleTime => 8,
-        Refusal::AboveLargest => 9,
-        Refusal::BeforeClock => 10,
-        Refusal::StepTooLong => 11,
-        Refusal::HeadLength => 12,
-        Refusal::Speed => 13,
-        Refusal::MalformedPort => 14,
-        Refusal::MalformedSheet => 15,
-        Refusal::BufferShort => 16,
-        Refusal::FrameSending => 17,
-    }
-}
+impl From<Refusal> for u8 {
+    ghost from_gives = { Numbers };
 
-// What an act answers: done, or refused for a reason.
-#[derive(Clone, Copy)]
-pub enum Answer {
-    Done,
-    Refused(Refusal),
+    fn from(refusal: Refusal) -> u8 {
+        match refusal {
+            Refusal::CutShort => 1,
+            Refusal::Operation => 2,
+            Refusal::LengthOctet => 3,
+            Refusal::ZeroInterval => 4,
+            Refusal::ListLength => 5,
+            Refusal::SwitchedOff => 6,
+            Refusal::ChangeWaits => 7,
+            Refusal::CycleTime => 8,
+            Refusal::AboveLargest => 9,
+            Refusal::BeforeClock => 10,
+            Refusal::StepTooLong => 11,
+            Refusal::HeadLength => 12,
+            Refusal::Speed => 13,
+            Refusal::MalformedPort => 14,
+            Refusal::MalformedSheet => 15,
+            Refusal::BufferShort => 16,
+            Refusal::FrameSending => 17,
+        }
+    }
 }
 
 // An order of refusals is a chain of tests: the first that holds gives its reason, else the rest of the chain answers.
 #[tactic(auto, unfolding(crate::specs::Answers::first_answer))]
-pub fn first(test: bool, reason: Refusal, rest: Answer) -> Answer
+pub fn first(test: bool, reason: Refusal, rest: Result<(), Refusal>) -> Result<(), Refusal>
     ensures { First test reason rest result }
 {
-    if test {
-        return Answer::Refused(reason);
-    }
-    rest
+    if test { Err(reason) } else { rest }
 }

@@ -2,17 +2,13 @@
 #![tactic(auto)]
 
 ghost use Rattle.std.specs.Prelude.{◌≡◌};
-ghost use Rattle.sheet.specs.Sheet.{read_sheet, reading_of};
+ghost use Rattle.sheet.specs.Sheet.{contents_of, read_sheet, reading_of};
 
-use numbers::Number;
-
-mod head;
-
-use head::HeadRead;
+use rule::Refusal;
 
 // A sheet: the standing octet; numerator and denominator of the cycle in seconds; the extension in nanoseconds; base time, start and end; the list's stated
 // length; and the place of the first of the list's octets, which go to the sheet's end.
-#[derive(Clone, Copy)]
+#[derive(Clone, Copy, Debug, PartialEq, Eq)]
 pub struct Sheet {
     pub standing: u8,
     pub numerator: u32,
@@ -25,48 +21,42 @@ pub struct Sheet {
     pub list: usize,
 }
 
-// What reading a sheet finds: its record, or none, which is refusal 15.
-#[derive(Clone, Copy)]
-pub enum SheetRead {
-    Good(Sheet),
-    Malformed,
-}
-
 // The longest sheet, in octets.
 pub const LONGEST: usize = 1024;
 
-// Reads a sheet. Refused: 15.
-pub fn read(s: &[u8]) -> SheetRead
-    ensures { reading_of result ≡ reading_of (read_sheet s.now) }
+// The record, if all eight numbers are there. Each is of the width of its field.
+#[tactic(auto, using(crate::proofs::Reading::missing, crate::proofs::Reading::there), unfolding(crate::specs::Sheet::contents_of))]
+fn contents(s: &[u8]) -> Option<Sheet>
+    ensures { result ≡ contents_of s.now }
 {
-    if LONGEST < s.len() {
-        return SheetRead::Malformed;
-    }
-    let HeadRead::Good(h) = head::read_head(s) else {
-        return SheetRead::Malformed;
-    };
-    let at = h.next;
-    let Number::Read(base, a) = numbers::read64(s, at) else {
-        return SheetRead::Malformed;
-    };
-    let Number::Read(start, b) = numbers::read64(s, a) else {
-        return SheetRead::Malformed;
-    };
-    let Number::Read(end, c) = numbers::read64(s, b) else {
-        return SheetRead::Malformed;
-    };
-    let Number::Read(length, list) = numbers::read64(s, c) else {
-        return SheetRead::Malformed;
-    };
-    SheetRead::Good(Sheet {
-        standing: h.standing,
-        numerator: h.numerator,
-        denominator: h.denominator,
-        extension: h.extension,
+    let (standing, at) = numbers::read(s, 0)?;
+    let (numerator, at) = numbers::read(s, at)?;
+    let (denominator, at) = numbers::read(s, at)?;
+    let (extension, at) = numbers::read(s, at)?;
+    let (base, at) = numbers::read(s, at)?;
+    let (start, at) = numbers::read(s, at)?;
+    let (end, at) = numbers::read(s, at)?;
+    let (length, list) = numbers::read(s, at)?;
+    Some(Sheet {
+        standing,
+        numerator,
+        denominator,
+        extension,
         base,
         start,
         end,
         length,
         list,
     })
+}
+
+// Reads a sheet. Refused: 15.
+#[tactic(auto, unfolding(crate::specs::Sheet::read_sheet))]
+pub fn read(s: &[u8]) -> Result<Sheet, Refusal>
+    ensures { reading_of result ≡ reading_of (read_sheet s.now) }
+{
+    if LONGEST < s.len() {
+        return Err(Refusal::MalformedSheet);
+    }
+    contents(s).ok_or(Refusal::MalformedSheet)
 }

@@ -4,69 +4,53 @@
 // a # is a remark. Text of more than 65,536 octets is an error, and so are an input that cannot be read and an output that cannot be written.
 #![tactic(auto)]
 
-ghost use Rattle.std.specs.Prelude.{◌≡◌, length};
-
+mod error;
 mod form;
-mod out;
-mod words;
+mod sheet;
 
-use form::Form;
-use text::Input;
+use crate::error::Error;
+use crate::form::Form;
 
-// The form that the text gives, up to its first error.
-fn formed(s: &[u8], list: &mut [u8]) -> Form {
-    let mut f = form::empty();
-    let mut at: usize = 0;
-    let mut left = s.len();
-    while 0 < left {
-        if (s.len() <= at) | (f.error != 0) {
-            return f;
-        }
-        let end = text::find(s, at, b'\n');
-        f = form::line(text::part(s, at, end), f, list);
-        at = after(end);
-        left = left - 1;
+// The longest text, in octets.
+const LONGEST: usize = 65536;
+
+// The form of a text, up to its first error, and how many lines it has.
+fn formed(text: &[u8]) -> Result<(Form, u64), Error> {
+    let mut form = Form::new();
+    // Counted here, since the error at the text's end names the last line.
+    let mut line: u64 = 0;
+    for told in text.split_inclusive(|b| *b == b'\n') {
+        line = line.saturating_add(1);
+        form.take(told).map_err(|fault| Error::Line(line, fault))?;
     }
-    f
+    Ok((form, line))
 }
 
-fn after(end: usize) -> usize {
-    if end < 65536 {
-        return end + 1;
+// Writes the sheet of a text.
+fn convert(text: &[u8]) -> Result<(), Error> {
+    let (form, line) = formed(text)?;
+    let numbers = form.numbers().map_err(|fault| Error::Line(line, fault))?;
+    // Room for the longest: eight numbers of at most 10 octets, and 128 entries of 7.
+    let mut octets = [0; 1024];
+    let n = sheet::put(&mut octets, numbers, form.list).map_err(|_| Error::Unwritable)?;
+    if !io::write_all(1, &octets[..n]) {
+        return Err(Error::Unwritable);
     }
-    end
+    Ok(())
 }
 
-fn convert(s: &[u8]) {
-    let mut list = [0u8; 896];
-    let f = formed(s, &mut list);
-    if f.error != 0 {
-        out::write_error(f);
-        return;
+// Reads the text, with one place more to know that there is more, and writes its sheet.
+fn run(rt: &impl std::io::Input) -> Result<(), Error> {
+    let mut text = [0; LONGEST + 1];
+    let n = text::take_all(rt, &mut text).map_err(|_| Error::Unreadable)?;
+    if LONGEST < n {
+        return Err(Error::TooLong);
     }
-    if f.given != 63 {
-        out::write_missing(f);
-        return;
-    }
-    out::write_sheet(f, &list);
-}
-
-// Places for the text, with one more to know that there is more. The contract gives only their number, which lending them needs.
-fn places() -> [u8; 65537]
-    ensures { length result ≡ 65537 }
-{
-    [0u8; 65537]
+    convert(&text[..n])
 }
 
 fn main(rt: HostRuntime) {
-    let mut taken = places();
-    let Input::Octets(n) = text::take_all(&rt, &mut taken) else {
-        text::complain(b"sheet_of: standard input cannot be read");
-        return;
-    };
-    if 65536 < n {
-        text::complain(b"sheet_of: the text has more than 65536 octets");
-        return;
+    if let Err(error) = run(&rt) {
+        let _ = eprintln!(rt; "{error}");
     }
-    convert(text::part(&taken, 0, n));
 }

@@ -1,47 +1,28 @@
 -- The order of Submit as the code evaluates it, test by test.
 -- Assumes nothing.
-use Rattle.std.proofs.Common.{◌≡◌, ℕ, Bool, true, false, not, ltb, List, [], ◌∷◌, sym, refl, ◌∙◌}
+use Rattle.std.proofs.Common.{◌≡◌, ℕ, Bool, not, ltb, List, [], ◌∷◌, sym, ◌∙◌}
 use Rattle.rule.specs.Limits.{largest_instant}
-use Rattle.rule.specs.declared.Answer.{Answer}
-use Rattle.rule.specs.declared.Answer.TheVariants as answer
 use Rattle.rule.specs.declared.Refusal.TheVariants.{ZeroInterval, ListLength, SwitchedOff, ChangeWaits, CycleTime, AboveLargest, MalformedPort}
-use Rattle.rule.specs.Refusals.{first_of}
-use Rattle.rule.specs.Answers.{first_answer, answer_of}
+use Rattle.rule.specs.Refusals.{first_of, Answer}
+use Rattle.rule.specs.Answers.{answer_of}
 use Rattle.rule.specs.Cycle.{cycle_offered}
-use Rattle.rule.specs.Orders.{length_offered, has_zero_interval, submit_order}
-use Rattle.gatelist.specs.Coding.{entry_of, entries_from}
+use Rattle.rule.specs.Orders.{length_offered, submit_order}
+use Rattle.gatelist.specs.Coding.{entry_of}
+use Rattle.gatelist.specs.Promises.{FindsZero}
 use Rattle.gatelist.proofs.Coding.{length_from}
+use Rattle.gatelist.proofs.Sound.{zero_listed}
 use Rattle.timetable.specs.declared.Times.{Times}
 use Rattle.timetable.specs.Record.{is_marked}
+use Rattle.submission.specs.declared.Submission.{Submission}
 use Rattle.submission.specs.Judgement.{Judges}
 
--- the chain of tests that the code evaluates, from the last to the first
-abbrev pub chain : Bool → Bool → Bool → Bool → Bool → Bool → Bool → Answer
-chain malformed off waits cycle above entries zero =
-    first_answer malformed MalformedPort
-    (first_answer off SwitchedOff
-    (first_answer waits ChangeWaits
-    (first_answer cycle CycleTime (first_answer above AboveLargest (first_answer entries ListLength (first_answer zero ZeroInterval answer.Done))))))
-
-chain-order : (a b c d e f z : Bool) → chain a b c d e f z
-    ≡ answer_of (first_of ((a, MalformedPort) ∷ (b, SwitchedOff) ∷ (c, ChangeWaits) ∷ (d, CycleTime) ∷ (e, AboveLargest) ∷ (f, ListLength) ∷ (z, ZeroInterval) ∷ []))
-unfolding first_answer
-chain-order true b c d e f z = refl
-chain-order false true c d e f z = refl
-chain-order false false true d e f z = refl
-chain-order false false false true e f z = refl
-chain-order false false false false true f z = refl
-chain-order false false false false false true z = refl
-chain-order false false false false false false true = refl
-chain-order false false false false false false false = refl
-
-module _ (x : Times) (formed too_late : Bool) (vs : List ℕ) (n numerator denominator base : ℕ) where
-  pub judges : (r : Answer) (zero : Bool) → ((os : List ℕ) → zero ≡ has_zero_interval (entries_from os vs 0 n))
-      → r ≡ chain (not formed) (not (is_marked x.on)) too_late (not (cycle_offered numerator denominator)) (ltb largest_instant base) (not (length_offered n)) zero
-      → Judges x formed too_late vs n numerator denominator base r
+module _ (x : Times) (formed too_late : Bool) (vs : List ℕ) (n : ℕ) (s : Submission) where
+  -- what the code finds, in the order of its tests
+  pub judges : (r : Answer) (cycle entries zero : Bool) → cycle ≡ cycle_offered s.numerator s.denominator → entries ≡ length_offered n → FindsZero vs n zero
+      → r ≡ answer_of (first_of ((not formed, MalformedPort) ∷ (not (is_marked x.on), SwitchedOff) ∷ (too_late, ChangeWaits) ∷ (not cycle, CycleTime)
+      ∷ (ltb largest_instant s.base, AboveLargest) ∷ (not entries, ListLength) ∷ (zero, ZeroInterval) ∷ []))
+      → Judges x formed too_late vs n s r
   unfolding submit_order
-  judges r zero z e = record {
-    is = λ os extension old new.
-        e ∙ chain-order (not formed) (not (is_marked x.on)) too_late (not (cycle_offered numerator denominator)) (ltb largest_instant base) (not (length_offered n)) zero
-        ∙ sym (rw (length_from (entry_of os vs) 0 n, ← z os));
+  judges r cycle entries zero p q z e = record {
+    is = λ os extension old new. e ∙ rw (p, q, zero_listed os vs n zero z) (sym (rw (length_from (entry_of os vs) 0 n)));
   }

@@ -1,3 +1,4 @@
+pub mod Cycles
 pub mod Placing
 pub mod Judging
 pub mod Unique

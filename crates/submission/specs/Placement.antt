@@ -10,6 +10,7 @@ use Rattle.timetable.specs.declared.Times.{Times}
 use Rattle.timetable.specs.declared.Timetable.{Timetable}
 use Rattle.timetable.specs.Record.{is_marked}
 use Rattle.timetable.specs.Checks.{change_by}
+use Rattle.submission.specs.declared.Submission.{Submission}
 
 -- ConfigChangeError, with a base time
 unfoldable pub errors_for : ℕ → Times → ℕ
@@ -57,10 +58,10 @@ waiting_by len c e s n x = record {
 abbrev pub placed_by : ℕ → ℕ → ℕ → ℕ → ℕ → Times → Times
 placed_by len c e s n x = cond (nat_le s x.clock) (operating_by len c e s n x) (waiting_by len c e s n x)
 
-unfoldable pub placed_times : ℕ → ℕ → ℕ → ℕ → ℕ → Times → Times
-placed_times len numerator denominator extension base x =
-    placed_by len (cycle_of numerator denominator) extension
-    (change_by x.clock base (cycle_of numerator denominator) % 18446744073709551616) (errors_for base x) x
+unfoldable pub placed_times : ℕ → Submission → Times → Times
+placed_times len s x =
+    placed_by len (cycle_of s.numerator s.denominator) s.extension
+    (change_by x.clock s.base (cycle_of s.numerator s.denominator) % 18446744073709551616) (errors_for s.base x) x
 
 -- the record with these numbers, and with a list for what waits if that is marked, else for what operates, and then none for what waits
 abbrev pub listed_in : GateList → Times → Timetable → Timetable

@@ -5,40 +5,40 @@ ghost use Rattle.std.specs.Prelude.{◌≡◌};
 ghost use Rattle.rule.specs.Cycle.{cycle_of, cycle_offered};
 ghost use Rattle.rule.specs.Orders.{length_offered};
 ghost use Rattle.submission.specs.Judgement.{Judges};
-ghost use Rattle.submission.specs.Placement.{errors_for, placed_by, placed_times};
+ghost use Rattle.submission.specs.Placement.{errors_for, placed_times};
 
-use gatelist::GateList;
-use rule::{Answer, Refusal, first};
-use timetable::Times;
+use gatelist::{Entries, GateList};
+use rule::{Refusal, first};
+use timetable::{Times, Timetable};
 
-// The largest instant, in nanoseconds, and the longest cycle.
-const LARGEST_INSTANT: u64 = 9_000_000_000_000_000_000;
-
-const LARGEST_CYCLE: u64 = 1_000_000_000;
-
-// The cycle of so many seconds, in nanoseconds; 0 for a denominator of 0.
-fn cycle_of(numerator: u32, denominator: u32) -> u64
-    ensures { result ≡ cycle_of numerator denominator }
-{
-    if denominator == 0 {
-        return 0;
-    }
-    let n = gatelist::wide(numerator);
-    let d = gatelist::wide(denominator);
-    n * 1_000_000_000 / d
+// What is submitted beside the list: the cycle of numerator / denominator seconds, the extension in nanoseconds and the base time.
+#[derive(Clone, Copy, Debug, PartialEq, Eq)]
+pub struct Submission {
+    pub numerator: u32,
+    pub denominator: u32,
+    pub extension: u32,
+    pub base: u64,
 }
 
-// The cycle is a whole number of nanoseconds, in range.
-fn cycle_offered(numerator: u32, denominator: u32) -> bool
-    ensures { result ≡ cycle_offered numerator denominator }
-{
-    if denominator == 0 {
-        return false;
+impl Submission {
+    // The cycle in nanoseconds, rounded down; 0 for a denominator of 0.
+    fn cycle(self) -> u64
+        ensures { result ≡ cycle_of self.numerator self.denominator }
+    {
+        let n = u64::from(self.numerator) * 1_000_000_000;
+        let d = u64::from(self.denominator);
+        n.checked_div(d).unwrap_or(0)
     }
-    let n = gatelist::wide(numerator);
-    let d = gatelist::wide(denominator);
-    let c = n * 1_000_000_000 / d;
-    (n * 1_000_000_000 % d == 0) & ((1 <= c) & (c <= LARGEST_CYCLE))
+
+    // The cycle is a whole number of nanoseconds, in range.
+    fn cycle_offered(self) -> bool
+        ensures { result ≡ cycle_offered self.numerator self.denominator }
+    {
+        let n = u64::from(self.numerator) * 1_000_000_000;
+        let d = u64::from(self.denominator);
+        let c = self.cycle();
+        (c * d == n) & ((1 <= c) & (c <= Timetable::LARGEST_CYCLE))
+    }
 }
 
 fn length_offered(len: usize) -> bool
@@ -47,26 +47,24 @@ fn length_offered(len: usize) -> bool
     (1 <= len) & (len <= GateList::MAX)
 }
 
-// The order of Submit, 14, 6, 7, 8, 9, 5, 4, for a list whose intervals stand in a lent array. The caller says whether 7 refuses it, `late`.
+// The order of Submit, 14, 6, 7, 8, 9, 5, 4. The caller says whether 7 refuses it, `late`.
 pub fn judged(
     x: Times,
     formed: bool,
     late: bool,
-    intervals: &[u32; 128],
-    len: usize,
-    numerator: u32,
-    denominator: u32,
-    base: u64,
-) -> Answer
-    ensures { Judges x formed late intervals.now len numerator denominator base result }
+    list: Entries<'_>,
+    s: Submission,
+) -> Result<(), Refusal>
+    ensures { Judges x formed late list.entry.intervals.now list.entry.len s result }
 {
-    let cycle = cycle_offered(numerator, denominator);
-    let length = length_offered(len);
-    let zero = gatelist::has_zero(intervals, len);
+    let cycle = s.cycle_offered();
+    let length = length_offered(list.len);
+    let zero = list.has_zero();
     let off = x.on != 1;
-    let last = first(zero, Refusal::ZeroInterval, Answer::Done);
+    let above = Timetable::LARGEST_INSTANT < s.base;
+    let last = first(zero, Refusal::ZeroInterval, Ok(()));
     let listed = first(!length, Refusal::ListLength, last);
-    let based = first(LARGEST_INSTANT < base, Refusal::AboveLargest, listed);
+    let based = first(above, Refusal::AboveLargest, listed);
     let cycled = first(!cycle, Refusal::CycleTime, based);
     let waiting = first(late, Refusal::ChangeWaits, cycled);
     let switched = first(off, Refusal::SwitchedOff, waiting);
@@ -78,16 +76,21 @@ fn errors_for(x: Times, base: u64) -> u64
     ensures { result ≡ errors_for base x }
 {
     if (base < x.clock) & (x.operates == 1) {
-        return std::num::wrapping_add_u64(x.errors, 1);
+        return x.errors.wrapping_add(1);
     }
     x.errors
 }
 
-// The numbers with a list of a length that operates from an instant, or waits for it in the place of what waits.
-fn placed_by(x: Times, len: usize, cycle: u64, extension: u64, start: u64, errors: u64) -> Times
-    ensures { result ≡ placed_by len cycle extension start errors x }
+// The numbers of a timetable after a submission that is taken, of a list of a length: it operates from its change instant, or waits for it in the place of
+// what waits. The list's places belong to what waits if that is marked, else to what operates.
+pub fn placed(x: Times, len: usize, s: Submission) -> Times
+    ensures { result ≡ placed_times len s x }
 {
     let clock = x.clock;
+    let cycle = s.cycle();
+    let extension = u64::from(s.extension);
+    let start = timetable::change_instant(clock, s.base, cycle);
+    let errors = errors_for(x, s.base);
     if start <= clock {
         return Times {
             operates: 1,
@@ -115,23 +118,4 @@ fn placed_by(x: Times, len: usize, cycle: u64, extension: u64, start: u64, error
         errors,
         ..x
     }
-}
-
-// The numbers of a timetable after a submission that is taken, of a list of a length. The list's places belong to what waits if that is marked, else to what
-// operates.
-pub fn placed(
-    x: Times,
-    len: usize,
-    numerator: u32,
-    denominator: u32,
-    extension: u32,
-    base: u64,
-) -> Times
-    ensures { result ≡ placed_times len numerator denominator extension base x }
-{
-    let cycle = cycle_of(numerator, denominator);
-    let start = timetable::change_instant(x.clock, base, cycle);
-    let e = gatelist::wide(extension);
-    let errors = errors_for(x, base);
-    placed_by(x, len, cycle, e, start, errors)
 }

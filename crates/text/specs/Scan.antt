@@ -1,14 +1,7 @@
--- The scan of a line at its first token and at the line's end; the first place with an octet; a hexadecimal digit's value; two runs of octets that are the same.
+-- What a scan has left of its line: at its first token, behind a token, at the line's end; the first place with an octet; a hexadecimal digit's value; two runs of octets that are the same.
 -- Assumes nothing.
-use Rattle.std.specs.Prelude.{Bool, true, false, cond, ◌&&◌, List, [], ◌∷◌, ℕ, suc, ◌+◌, ◌-◌, leb, eqb, length, drop}
+use Rattle.std.specs.Prelude.{Bool, true, false, cond, ◌&&◌, List, [], ◌∷◌, ℕ, suc, ◌+◌, ◌-◌, leb, ltb, eqb, length, take, drop, Option, Some, None, is_none, option_copied}
 use Rattle.text.specs.declared.scan.Scan.{Scan}
-
-abbrev pub first_scan : Scan
-first_scan = record { at = 0; good = true; begun = false }
-
--- each token fitted its place, and the whole line is taken
-abbrev pub at_end : List ℕ → Scan → Bool
-at_end s c = c.good && eqb c.at (length s)
 
 -- how many octets stand before the first of a kind, all if there is none
 unfoldable pub before : ℕ → List ℕ → ℕ
@@ -18,6 +11,28 @@ before octet (x ∷ l) = cond (eqb x octet) 0 (suc (before octet l))
 -- the first place from a place on
 abbrev pub find_from : List ℕ → ℕ → ℕ → ℕ
 find_from s at octet = at + before octet (drop at s)
+
+-- what a scan has left of its line, none behind the last token
+abbrev pub left_of : Scan → Option (List ℕ)
+left_of c = option_copied c.rest
+
+-- at its first token a scan has the whole line left
+abbrev pub first_scan : List ℕ → Option (List ℕ)
+first_scan s = Some s
+
+-- the next token, up to a space
+abbrev pub token_of : Option (List ℕ) → Option (List ℕ)
+token_of None = None
+token_of (Some s) = Some (take (before 32 s) s)
+
+-- what is left behind the next token and its space
+abbrev pub behind_token : Option (List ℕ) → Option (List ℕ)
+behind_token None = None
+behind_token (Some s) = cond (ltb (before 32 s) (length s)) (Some (drop (before 32 s + 1) s)) None
+
+-- the whole line is taken
+abbrev pub at_end : Option (List ℕ) → Bool
+at_end left = is_none left
 
 -- the value of a hexadecimal digit, `0` to `9`, `A` to `F`, `a` to `f`; 16 for any other octet
 abbrev pub hex_value : ℕ → ℕ

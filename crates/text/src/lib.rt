@@ -1,5 +1,5 @@
 // Text for people, in ASCII: octets and numbers put into a lent buffer at a place, and numbers taken from a line. Putting answers the next place; what does
-// not fit is left out, and the buffer and the place stay as they were.
+// not fit is left out, and the buffer and the place stay as they were. They are two parameters and no struct, since `Puts` and the laws over it speak of both.
 #![tactic(auto)]
 
 ghost use Rattle.std.specs.Prelude.{◌≡◌, [], ◌∷◌, ◌<◌};
@@ -10,30 +10,20 @@ mod digits;
 mod scan;
 mod stream;
 
-pub use digits::from_hex;
-pub use scan::{
-    Scan, Taken, Taken8, Taken32, Token, at_end, find, hex_value, next, number, number8, number32,
-    number64, part, same, start, wide,
-};
-pub use stream::{Input, complain, take, take_all};
+pub use digits::{from_hex, hex_value};
+pub use scan::{Scan, find, part};
+pub use stream::{complain, take, take_all};
 
 // Puts octets at a place.
 pub fn put(out: &mut [u8], at: usize, s: &[u8]) -> usize
     ensures { Puts s.now at out.old result out.new }
 {
-    let n = s.len();
-    if out.len() < at {
+    if out.len() < at || out.len() - at < s.len() {
         return at;
     }
-    if out.len() - at < n {
-        return at;
-    }
-    let mut i: usize = 0;
-    while i < n {
-        out[at + i] = s[i];
-        i = i + 1;
-    }
-    at + n
+    let end = at + s.len();
+    out[at..end].copy_from_slice(s);
+    end
 }
 
 // A digit of 0 to 15 in upper case.
@@ -41,7 +31,7 @@ fn glyph(d: u8) -> u8
     requires { d < 16 }
     ensures { result ≡ glyph_of d }
 {
-    if d < 10 { 48 + d } else { 55 + d }
+    if d < 10 { b'0' + d } else { b'A' + (d - 10) }
 }
 
 // Puts an octet as two upper-case hexadecimal digits.
@@ -69,10 +59,8 @@ pub fn spaced(out: &mut [u8], at: usize, n: u64) -> usize
     decimal(out, at, n)
 }
 
-// Writes the first n octets of a buffer to standard output, and answers whether all were taken: not if there are fewer, or if a write fails.
+// Writes the first n octets of a buffer to standard output, and answers whether all were taken: not if there are fewer, or if a write fails. A bool,
+// as of `io::write_all`: no reason comes with it.
 pub fn show(out: &[u8], n: usize) -> bool {
-    if out.len() < n {
-        return false;
-    }
-    io::write_all(1, &out[..n])
+    out.get(..n).is_some_and(|s| io::write_all(1, s))
 }

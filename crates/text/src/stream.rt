@@ -2,46 +2,36 @@
 ghost use Rattle.std.specs.Prelude.{length};
 ghost use Rattle.text.specs.Input.{Takes};
 
-use std::io::Read;
+use std::io::{Read, Result};
 
-// What reading gave: so many octets of the buffer are taken, or a read failed.
-#[derive(Clone, Copy)]
-pub enum Input {
-    Octets(usize),
-    Failed,
-}
-
-// Reads once, behind the octets that are taken. The same number as before: the input is at its end, or the buffer is full.
-pub fn take(rt: &impl std::io::Input, out: &mut [u8], used: usize) -> Input
+// Reads once, behind the octets that are taken, and answers how many are taken then. The same number as before: the input is at its end, or the buffer is full.
+// The buffer is lent and no Vec, so that nothing but a read can fail.
+pub fn take(rt: &impl std::io::Input, out: &mut [u8], used: usize) -> Result<usize>
     ensures { Takes used (length out.old) result }
 {
     if out.len() <= used {
-        return Input::Octets(used);
+        return Ok(used);
     }
-    match rt.reader().read(&mut out[used..]) {
-        Ok(more) => Input::Octets(used + more),
-        Err(_) => Input::Failed,
-    }
+    let more = rt.reader().read(&mut out[used..])?;
+    Ok(used + more)
 }
 
 // Reads until the buffer is full or the input is at its end.
-pub fn take_all(rt: &impl std::io::Input, out: &mut [u8]) -> Input
+pub fn take_all(rt: &impl std::io::Input, out: &mut [u8]) -> Result<usize>
     ensures { Takes 0 (length out.old) result }
 {
     let mut used: usize = 0;
     while used < out.len() {
-        let Input::Octets(n) = take(rt, out, used) else {
-            return Input::Failed;
-        };
+        let n = take(rt, out, used)?;
         if n <= used {
-            return Input::Octets(used);
+            break;
         }
         used = n;
     }
-    Input::Octets(used)
+    Ok(used)
 }
 
-// Says what went wrong, on a line of standard error.
+// Says what went wrong, on a line of standard error. By the kit's io: std's eprintln would want the runtime at each call, and a result that nobody reads.
 pub fn complain(s: &[u8]) {
     io::write_all(2, s);
     io::write_all(2, b"\n");

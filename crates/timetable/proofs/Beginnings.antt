@@ -1,7 +1,6 @@
--- The starts of cycles as the code computes them: the plain start, the last start, whether the last cycle has begun, the change instant.
+-- The starts of cycles as the code computes them: the last start, whether the last cycle has begun, the change instant.
 -- Assumes nothing.
-use Rattle.std.proofs.Common.{◌≡◌, ℕ, ◌+◌, ◌-◌, ◌*◌, ◌/◌, ◌%◌, ◌<◌, ◌≤◌, min, max, Bool, true, false, cond, ◌&&◌, eqb, ltb, leb, List, [], sym, refl, ap, ◌∙◌, mul-le-mul_right, mod-eq_of_lt, mul-lt-mul_of_pos_right, lt_of_not-le, zero-mul, not-le_of_lt, arith, ltb-false, ltb-true, le-ltb, eqb-true, le-leb}
-use native.Mathlib.Nat.{zero-div}
+use Rattle.std.proofs.Common.{◌≡◌, ℕ, ◌+◌, ◌-◌, ◌*◌, ◌/◌, ◌%◌, ◌<◌, ◌≤◌, min, max, Bool, true, false, cond, ◌&&◌, eqb, ltb, leb, List, [], sym, refl, ap, ◌∙◌, mul-le-mul_right, mod-eq_of_lt, mul-lt-mul_of_pos_right, lt_of_not-le, not-le_of_lt, arith, ltb-false, ltb-true, le-ltb, eqb-true, le-leb}
 use borrow.Author.Tests.{lt-leb, eqb-false}
 use Rattle.rule.specs.Entries.{Entry}
 use Rattle.rule.specs.Cycle.{Config, start_no, cycle_no, first_no, last_no, change_instant}
@@ -11,18 +10,6 @@ use Rattle.timetable.specs.declared.Times.{Times}
 use Rattle.timetable.specs.Record.{is_marked}
 use Rattle.timetable.specs.Coding.{present, old_config, new_waiting, timetable_of}
 use Rattle.timetable.specs.Checks.{change_by, begun_by}
-
--- the plain start: with no cycle, before the first start, after it
-
-module _ (start cycle t : ℕ) where
-  pub plain_none : cycle ≡ 0 → start ≡ start + (t - start) / cycle * cycle
-  plain_none e = rw e (omega arith)
-
-  pub plain_early : t ≤ start → start ≡ start + (t - start) / cycle * cycle
-  plain_early h =
-      let z : t - start ≡ 0 = omega arith in
-      let y : (t - start) / cycle * cycle ≡ 0 = ap (λ n. n / cycle * cycle) z ∙ ap (λ n. n * cycle) (zero-div cycle) ∙ zero-mul cycle in
-      omega arith
 
 -- the last start
 

@@ -19,14 +19,13 @@ module _ (vs : List ℕ) (n place from next : ℕ) where
     unfolding stop_at
     enters_last a = simp (← i, le-leb inner place a)
 
-    module _ (a : place < inner) (left interval : ℕ) (l : left ≡ next - from) (e : interval ≡ get_or vs place 0) where
-      pub enters_cut : left ≤ interval → at next ≡ entered vs n place from next
-      unfolding stop_at
-      enters_cut d = simp (← i, lt-leb inner place a, ← e, ← l, le-leb left interval d)
-
-      pub enters_whole : interval < left → at (from + interval) ≡ entered vs n place from next
-      unfolding stop_at
-      enters_whole d = simp (← i, lt-leb inner place a, ← e, ← l, lt-leb left interval d)
+    pub enters_rest : place < inner → (interval stop : ℕ) → interval ≡ get_or vs place 0 → stop ≡ min (from + interval) next → at stop ≡ entered vs n place from next
+    unfolding stop_at
+    enters_rest a interval stop e q = simp (← i, lt-leb inner place a, ← e) (ap at (go (leb (next - from) interval) refl))
+      where
+        go : (b : Bool) → leb (next - from) interval ≡ b → stop ≡ cond b next (from + interval)
+        go true z = omega (arith, leb-true (next - from) interval z)
+        go false z = omega (arith, leb-false (next - from) interval z)
 
 module _ (vs : List ℕ) (n period : ℕ) (c r : Cursor) where
   pub advances_wrap : c.next ≤ c.stop → (after : ℕ) → after ≡ wrapped c.next period → r ≡ entered vs n 0 c.next after → r ≡ advanced vs n period c
@@ -38,19 +37,21 @@ module _ (vs : List ℕ) (n period : ℕ) (c r : Cursor) where
   advances_on a later e k = simp (lt-leb c.next c.stop a, ← e) k
 
 module _ (vs : List ℕ) (n period base from : ℕ) (p : Place) (found : p ≡ place_at vs n (from - base)) (next : ℕ) (ends : next ≡ wrapped base period) where
-  pub cursor_last : n - 1 ≤ p.number → record { place = p.number; from = from; stop = next; next = next } ≡ cursor_at vs n period base from
-  unfolding cursor_at
-  cursor_last h = rw (← ends, ← found, le-leb (n - 1) p.number h)
+  abbrev stops : ℕ → Cursor
+  stops stop = record { place = p.number; from = from; stop = stop; next = next }
 
-  pub cursor_cut : p.number < n - 1 → (left : ℕ) → left ≡ next - base → left ≤ p.end
-      → record { place = p.number; from = from; stop = next; next = next } ≡ cursor_at vs n period base from
-  unfolding cursor_at
-  cursor_cut h left l k = rw (← ends, ← found, lt-leb (n - 1) p.number h, ← l, le-leb left p.end k)
+  module _ (inner : ℕ) (i : inner ≡ n - 1) where
+    pub cursor_last : inner ≤ p.number → stops next ≡ cursor_at vs n period base from
+    unfolding cursor_at
+    cursor_last h = rw (← ends, ← found, ← i, le-leb inner p.number h)
 
-  pub cursor_whole : p.number < n - 1 → (left : ℕ) → left ≡ next - base → p.end < left
-      → record { place = p.number; from = from; stop = base + p.end; next = next } ≡ cursor_at vs n period base from
-  unfolding cursor_at
-  cursor_whole h left l k = rw (← ends, ← found, lt-leb (n - 1) p.number h, ← l, lt-leb left p.end k)
+    pub cursor_rest : p.number < inner → (stop : ℕ) → stop ≡ min (base + p.end) next → stops stop ≡ cursor_at vs n period base from
+    unfolding cursor_at
+    cursor_rest h stop q = rw (← ends, ← found, ← i, lt-leb inner p.number h) (ap stops (go (leb (next - base) p.end) refl))
+      where
+        go : (b : Bool) → leb (next - base) p.end ≡ b → stop ≡ cond b next (base + p.end)
+        go true z = omega (arith, leb-true (next - base) p.end z)
+        go false z = omega (arith, leb-false (next - base) p.end z)
 
 pub cursor_from : (vs : List ℕ) (n period base from : ℕ) (c : Cursor) → c ≡ cursor_at vs n period base from → c.from ≡ from
 unfolding cursor_at
@@ -83,13 +84,13 @@ module _ (vs : List ℕ) (n place from next : ℕ) (one : place < n) (few : n �
           let e = leb-false (min (n - 1) 128) place p in
           let k = leb-true (next - from) (get_or vs place 0) q in
           within next inside (omega arith) (λ h. omega arith) (λ h. absurd (omega arith))
-          (ap (λ (r : Cursor). r.stop) (enters_cut vs n place from next (min (n - 1) 128) refl e (next - from) (get_or vs place 0) refl refl k))
+          (ap (λ (r : Cursor). r.stop) (enters_rest vs n place from next (min (n - 1) 128) refl e (get_or vs place 0) next refl (omega arith)))
       go false p false q =
           let e = leb-false (min (n - 1) 128) place p in
           let k = leb-false (next - from) (get_or vs place 0) q in
           let m : place + 1 < n = omega arith in
           within (from + get_or vs place 0) (omega arith) (omega arith) (λ h. omega arith) (λ h. (m, refl))
-          (ap (λ (r : Cursor). r.stop) (enters_whole vs n place from next (min (n - 1) 128) refl e (next - from) (get_or vs place 0) refl refl k))
+          (ap (λ (r : Cursor). r.stop) (enters_rest vs n place from next (min (n - 1) 128) refl e (get_or vs place 0) (from + get_or vs place 0) refl (omega arith)))
 
 -- the entry after a cursor's
 pub advances : (vs : List ℕ) (n period : ℕ) (c : Cursor) → Onward vs n period c → Advances vs n period c (advanced vs n period c)

@@ -10,28 +10,22 @@ use Rattle.rule.specs.Acts.{on, off, standing, perform_gates}
 use Rattle.rule.specs.Orders.{has_zero_interval}
 use Rattle.rule.proofs.Regime.{Rules}
 use Rattle.rule.proofs.Soundness.{SoundOperating, SoundWait, SoundWaiting}
-use Rattle.gatelist.specs.declared.GateList.{GateList}
 use Rattle.gatelist.specs.Coding.{entry_of, list_of, padded, encode_list, empty_list}
 use Rattle.gatelist.proofs.Coding.{length_from}
 use Rattle.gatelist.proofs.Sound.{zero_free}
 use Rattle.timetable.specs.declared.Times.{Times}
 use Rattle.timetable.specs.declared.Timetable.{Timetable}
 use Rattle.timetable.specs.declared.ruling.Span.{Span}
-use Rattle.timetable.specs.Record.{is_marked, old_list, new_list}
+use Rattle.timetable.specs.declared.ruling.Which.{Which}
+use Rattle.timetable.specs.declared.ruling.Which.TheVariants.{Operating, Waiting}
+use Rattle.timetable.specs.Record.{is_marked, old_list, new_list, list_in, is_there, by_which}
+use Rattle.std.specs.Prelude.{Some, None}
 use Rattle.timetable.specs.Coding.{present, old_config, new_waiting, decode, encode}
 use Rattle.timetable.specs.Checks.{Fine}
 use Rattle.timetable.specs.Regime.{Governs}
 use Rattle.timetable.specs.Cursor.{Used}
 use Rattle.timetable.specs.Updates.{with_times, switched, clocked, cleared_table, installed_with, moved_table}
 use Rattle.timetable.proofs.Spans.{InTime}
-
--- the list that a span speaks of, and whether it is there
-abbrev pub list_in : Timetable → Bool → GateList
-list_in g true = new_list g
-list_in g false = old_list g
-
-abbrev pub is_there : Times → Bool → Bool
-is_there x b = cond b (is_marked x.waits) (is_marked x.operates)
 
 module _ (g : Timetable) (k : Fine g) where
   abbrev x : Times
@@ -63,40 +57,39 @@ module _ (g : Timetable) (k : Fine g) where
 
   -- the lists: 1 to 128 entries, and no interval of 0
 
-  pub list-fine : (b : Bool) → is_there x b ≡ true → (1 ≤ (list_in g b).len) × ((list_in g b).len ≤ 128)
-  list-fine true e =
+  pub list-fine : (w : Which) → is_there x w ≡ true → (1 ≤ (list_in g w).len) × ((list_in g w).len ≤ 128)
+  list-fine Waiting e =
       let w = (waiting-fine e).config in
       let n = length_from (entry_of g.newoctets g.newintervals) 0 x.newlen in
       (omega (arith, w.some-entry), omega (arith, w.few_entries))
-  list-fine false e =
+  list-fine Operating e =
       let w = (operating-fine e).0 in
       let n = length_from (entry_of g.octets g.intervals) 0 x.len in
       (omega (arith, w.some-entry), omega (arith, w.few_entries))
 
-  pub list-used : (b : Bool) → is_there x b ≡ true → Used (list_in g b).intervals (list_in g b).len
+  pub list-used : (b : Which) → is_there x b ≡ true → Used (list_in g b).intervals (list_in g b).len
   list-used b e j h = lt_of_not-le (λ (z : get_or (list_in g b).intervals j 0 ≤ 0).
       zero_free (entry_of (list_in g b).octets (list_in g b).intervals) 0 (list_in g b).len (free b e) j h (rw zero-add (omega arith)))
     where
-      free : (b : Bool) → is_there x b ≡ true → has_zero_interval (list_of (list_in g b)) ≡ false
-      free true e = (waiting-fine e).config.intervals
-      free false e = (operating-fine e).0.intervals
+      free : (b : Which) → is_there x b ≡ true → has_zero_interval (list_of (list_in g b)) ≡ false
+      free Waiting e = (waiting-fine e).config.intervals
+      free Operating e = (operating-fine e).0.intervals
 
 -- what is shown over a span
 
 module _ (g : Timetable) (t : ℕ) (r : Span) (h : Governs g.times t r) where
-  pub table_flat : r.flat ≡ true → (v : ℕ) → t ≤ v → v < r.edge → model.shown (decode g) v ≡ g.times.standing
+  pub table_flat : r.list ≡ None → (v : ℕ) → t ≤ v → v < r.edge → model.shown (decode g) v ≡ g.times.standing
   unfolding decode
   table_flat e v a b = h.flat e (list_of (old_list g)) (list_of (new_list g)) v a b
 
-  pub table_ruled : r.flat ≡ false → (b : Bool) → r.new ≡ b → Rules (model.shown (decode g)) (list_of (list_in g b)) r.period r.start t r.edge
+  pub table_ruled : (w : Which) → r.list ≡ Some w → Rules (model.shown (decode g)) (list_of (list_in g w)) r.period r.start t r.edge
   unfolding decode
-  table_ruled e b q = go b (subst (λ d. Rules (model.shown (decode g)) (cond d (list_of (new_list g)) (list_of (old_list g))) r.period r.start t r.edge) q
-      (h.ruled e (list_of (old_list g)) (list_of (new_list g))))
+  table_ruled w e = go w (h.ruled w e (list_of (old_list g)) (list_of (new_list g)))
     where
-      go : (b : Bool) → Rules (model.shown (decode g)) (cond b (list_of (new_list g)) (list_of (old_list g))) r.period r.start t r.edge
-          → Rules (model.shown (decode g)) (list_of (list_in g b)) r.period r.start t r.edge
-      go true y = y
-      go false y = y
+      go : (w : Which) → Rules (model.shown (decode g)) (by_which w (list_of (old_list g)) (list_of (new_list g))) r.period r.start t r.edge
+          → Rules (model.shown (decode g)) (list_of (list_in g w)) r.period r.start t r.edge
+      go Waiting y = y
+      go Operating y = y
 
 -- the acts and time
 

@@ -14,8 +14,8 @@ use Rattle.timetable.proofs.Cursors.{cursor_from, cursor_placed, advances}
 use Rattle.timetable.proofs.Pointing.{points_more, points_wrap}
 
 -- the first cursor is safe, and points into the running cycle
-pub safe-start : (vs : List ℕ) (s : Stretch) → Walkable vs s → (c : Cursor) → c.from ≡ s.from → Placed vs s.len s.base (s.base + s.period) c
-    → Safe s.len s.period s.edge c
+pub safe-start : (vs : List ℕ) (s : Stretch) → Walkable vs s → (c : Cursor) → c.from ≡ s.from → Placed vs s.list.len s.base (s.base + s.period) c
+    → Safe s.list.len s.period s.edge c
 safe-start vs s h c e p =
     let a = p.ends in
     let u = p.upto in
@@ -28,16 +28,16 @@ safe-start vs s h c e p =
       more = λ z. (p.before (omega arith)).0;
     }
 
-pub points_start : (vs : List ℕ) (s : Stretch) (c : Cursor) → c.from ≡ s.from → Placed vs s.len s.base (s.base + s.period) c
-    → (f : Config) → f.cycle ≡ s.period → Runs f s → Points f vs s.len c
+pub points_start : (vs : List ℕ) (s : Stretch) (c : Cursor) → c.from ≡ s.from → Placed vs s.list.len s.base (s.base + s.period) c
+    → (f : Config) → f.cycle ≡ s.period → Runs f s → Points f vs s.list.len c
 points_start vs s c e p f q r = record {
   started = rw e r.started;
-  placed = subst⁻¹ (λ b. Placed vs s.len b (b + f.cycle) c) (ap (plain_start f) e ∙ r.base)
-      (subst⁻¹ (λ d. Placed vs s.len s.base (s.base + d) c) q p);
+  placed = subst⁻¹ (λ b. Placed vs s.list.len b (b + f.cycle) c) (ap (plain_start f) e ∙ r.base)
+      (subst⁻¹ (λ d. Placed vs s.list.len s.base (s.base + d) c) q p);
 }
 
-pub safe-onward : (vs : List ℕ) (s : Stretch) → Walkable vs s → (c : Cursor) → Safe s.len s.period s.edge c → c.stop < s.edge
-    → Onward vs s.len s.period c
+pub safe-onward : (vs : List ℕ) (s : Stretch) → Walkable vs s → (c : Cursor) → Safe s.list.len s.period s.edge c → c.stop < s.edge
+    → Onward vs s.list.len s.period c
 safe-onward vs s h c k b = record {
   some = h.some;
   few = h.few;
@@ -50,17 +50,17 @@ safe-onward vs s h c k b = record {
 }
 
 -- the first cursor of a walk, and the next one, as the code has them
-pub stretch_cursor : (vs : List ℕ) (s : Stretch) → Walkable vs s → (c : Cursor) → c ≡ cursor_at vs s.len s.period s.base s.from
-    → (c.from ≡ s.from) × Placed vs s.len s.base (s.base + s.period) c
+pub stretch_cursor : (vs : List ℕ) (s : Stretch) → Walkable vs s → (c : Cursor) → c ≡ cursor_at vs s.list.len s.period s.base s.from
+    → (c.from ≡ s.from) × Placed vs s.list.len s.base (s.base + s.period) c
 stretch_cursor vs s h c e = (
-  cursor_from vs s.len s.period s.base s.from c e,
-  subst⁻¹ (Placed vs s.len s.base (s.base + s.period)) e
-      (cursor_placed vs s.len s.period s.base s.from h.some h.begun h.ahead (omega (arith, h.near, h.short, h.begun, h.before))),
+  cursor_from vs s.list.len s.period s.base s.from c e,
+  subst⁻¹ (Placed vs s.list.len s.base (s.base + s.period)) e
+      (cursor_placed vs s.list.len s.period s.base s.from h.some h.begun h.ahead (omega (arith, h.near, h.short, h.begun, h.before))),
 )
 
-pub stretch_advances : (vs : List ℕ) (s : Stretch) → Walkable vs s → (c : Cursor) → Safe s.len s.period s.edge c → c.stop < s.edge → (r : Cursor)
-    → r ≡ advanced vs s.len s.period c → Advances vs s.len s.period c r
-stretch_advances vs s h c k b r e = subst⁻¹ (Advances vs s.len s.period c) e (advances vs s.len s.period c (safe-onward vs s h c k b))
+pub stretch_advances : (vs : List ℕ) (s : Stretch) → Walkable vs s → (c : Cursor) → Safe s.list.len s.period s.edge c → c.stop < s.edge → (r : Cursor)
+    → r ≡ advanced vs s.list.len s.period c → Advances vs s.list.len s.period c r
+stretch_advances vs s h c k b r e = subst⁻¹ (Advances vs s.list.len s.period c) e (advances vs s.list.len s.period c (safe-onward vs s h c k b))
 
 -- the next entry begins where this one stops
 pub advances_from : (vs : List ℕ) (n period : ℕ) (c r : Cursor) → Advances vs n period c r → c.stop ≤ c.next → r.from ≡ c.stop

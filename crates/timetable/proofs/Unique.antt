@@ -1,6 +1,6 @@
--- Each contract of a public function leaves one outcome: two results that it allows for one input are equal. `least`, `most`, `minus`, `fresh`, `cleared`,
--- `moved`, `regime`, `shown_at`, `cursor_at`, `advance` and `change_instant` promise an equation, and two results equal to one value are equal
--- (`equation_unique`); `formed` promises `Checked` (`checked_unique`).
+-- Each contract of a public function leaves one outcome: two results that it allows for one input are equal. `Timetable::new`, `cleared`, `moved`, `shown_at`,
+-- `Times::regime`, `last_begun`, `Stretch::cursor`, `advance` and `change_instant` promise an equation, and two results equal to one value are equal
+-- (`equation_unique`); so do `operating`, `waiting` and `list`, of what is lent; `formed` promises `Checked` (`checked_unique`).
 -- Assumes nothing.
 use Rattle.std.proofs.Common.{◌≡◌, Bool, sym, ◌∙◌}
 use Rattle.timetable.specs.declared.Timetable.{Timetable}

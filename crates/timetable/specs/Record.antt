@@ -7,6 +7,8 @@ use Rattle.gatelist.specs.declared.GateList.{GateList}
 use Rattle.gatelist.specs.Sound.{list_formed}
 use Rattle.timetable.specs.declared.Times.{Times}
 use Rattle.timetable.specs.declared.Timetable.{Timetable}
+use Rattle.timetable.specs.declared.ruling.Which.{Which}
+use Rattle.timetable.specs.declared.ruling.Which.TheVariants.{Operating, Waiting}
 
 -- the first if b holds, else the second; the first only if b holds
 abbrev pub either : Bool → Bool → Bool → Bool
@@ -27,6 +29,20 @@ old_list g = record { octets = g.octets; intervals = g.intervals; len = g.times.
 
 abbrev pub new_list : Timetable → GateList
 new_list g = record { octets = g.newoctets; intervals = g.newintervals; len = g.times.newlen }
+
+-- one of the two, and whether its configuration is there
+abbrev pub list_in : Timetable → Which → GateList
+list_in g Operating = old_list g
+list_in g Waiting = new_list g
+
+abbrev pub is_there : Times → Which → Bool
+is_there x Operating = is_marked x.operates
+is_there x Waiting = is_marked x.waits
+
+-- one of two values
+abbrev pub by_which : {A : Type 0} → Which → A → A → A
+by_which Operating old new = old
+by_which Waiting old new = new
 
 -- the marks are marks
 unfoldable pub marks_ok : Times → Bool

@@ -9,9 +9,9 @@ use Rattle.timetable.specs.Cursor.{Used}
 
 -- what a walk asks of a stretch: a list, a cycle that runs at its first instant, and numbers that fit
 pub record Walkable (vs : List ℕ) (s : Stretch) : Type 0 where
-  pub some : 1 ≤ s.len
-  pub few : s.len ≤ 128
-  pub used : Used vs s.len
+  pub some : 1 ≤ s.list.len
+  pub few : s.list.len ≤ 128
+  pub used : Used vs s.list.len
   pub begun : s.base ≤ s.from
   pub ahead : s.from < s.base + s.period
   pub before : s.from < s.edge

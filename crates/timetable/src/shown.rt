@@ -3,28 +3,20 @@ ghost use Rattle.std.specs.Prelude.{◌≡◌};
 ghost use Rattle.rule.specs.Timetable.{shown};
 ghost use Rattle.timetable.specs.Coding.{decode};
 
-use crate::Times;
-use crate::numbers::minus;
-use crate::ruling::regime;
+use crate::Timetable;
 
-// What a timetable whose lists stand in lent arrays shows at t: the octet of the span that rules then, by the time since its start.
-pub fn shown_at<'a>(
-    x: Times,
-    os: &'a [u8; 128],
-    vs: &'a [u32; 128],
-    ws: &'a [u8; 128],
-    zs: &'a [u32; 128],
-    t: u64,
-) -> u8
-    ensures { result ≡ shown (decode (record { times = x; octets = os.now; intervals = vs.now; newoctets = ws.now; newintervals = zs.now })) t }
-{
-    let span = regime(x, t);
-    if span.flat {
-        return x.standing;
+impl Timetable {
+    // What it shows at t: the octet of the span that rules then, by the time since its start.
+    pub fn shown_at(&self, t: u64) -> u8
+        ensures { result ≡ shown (decode self.now) t }
+    {
+        let span = self.times.regime(t);
+        match span.list {
+            None => self.times.standing,
+            Some(which) => {
+                let offset = t.saturating_sub(span.start);
+                self.list(which).octet_at(offset)
+            }
+        }
     }
-    let offset = minus(t, span.start);
-    if span.new {
-        return gatelist::octet_at(ws, zs, x.newlen, offset);
-    }
-    gatelist::octet_at(os, vs, x.len, offset)
 }

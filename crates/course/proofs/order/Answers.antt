@@ -7,5 +7,5 @@ use Rattle.course.proofs.order.Goals as goal
 pub returns : goal.returns
 returns c =
     let a = c.args in
-    order_is a.malformed a.longest a.goal a.clock _ (ap (ltb a.longest) c.minus.ensures) _ _ _ _ c.first-third.ensures c.first-second.ensures
+    order_is a.malformed a.longest a.goal a.clock _ (ap (ltb a.longest) c.saturating_sub.ensures) _ _ _ _ c.first-third.ensures c.first-second.ensures
     c.first-behind.ensures c.first.ensures

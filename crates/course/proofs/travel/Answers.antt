@@ -1,30 +1,37 @@
 -- `course::travel` meets its contract: its order refuses, or the walk from the clock is the travel.
 -- Assumes nothing.
-use Rattle.std.proofs.Common.{refl}
-use Rattle.timetable.specs.declared.Timetable.{Timetable}
-use Rattle.course.proofs.WaysOut.{order_refuses, order-accepts, travel-accepted, accepted-fine, travel-stays, travel-goes}
+use Rattle.std.proofs.Common.{refl, rules}
+use Rattle.std.proofs.lemmas.Result.{err_from_is_err_and}
+use Rattle.course.proofs.WaysOut.{order_refuses, order-passes, travel-stays, travel-ends, travel-comes}
 use Rattle.course.proofs.travel.Goals as goal
 
-pub walk_to-w-requires : goal.walk_to-w-requires
-walk_to-w-requires c =
+pub returns-in_err-order : goal.returns-in_err-order
+returns-in_err-order c =
     let a = c.args in
-    let g : Timetable = record { times = a.x; octets = a.os.now; intervals = a.vs.now; newoctets = a.ws.now; newintervals = a.zs.now } in
-    let d = order-accepts a.fit a.longest a.goal g c.formed.result c.formed.ensures c.order.result c.order.ensures c.in-Done.is in
-    let k = travel-accepted a.fit a.longest a.goal g d in
-    record { fine = accepted-fine a.fit a.goal g k c.formed.result c.formed.ensures; octet_value = (c.shown_at-octet.ensures, (k.ahead, k.near)) }
+    let p = err_from_is_err_and c.from_residual.result c.from_residual.ensures.1 in
+    rw (p.1, p.2)
+    (travel-stays a.fit a.longest a.goal a.g.now a.instants.now _ a.octets.now _ _
+    (order_refuses a.fit a.longest a.goal a.g.now c.formed.result c.formed.ensures c.order.result c.order.ensures _ c.in_err-order.was) refl refl)
 
-pub returns-in-Refused : goal.returns-in-Refused
-returns-in-Refused c =
+pub walk_to-requires-clause-fine : goal.walk_to-requires-clause-fine
+walk_to-requires-clause-fine c =
     let a = c.args in
-    let g : Timetable = record { times = a.x; octets = a.os.now; intervals = a.vs.now; newoctets = a.ws.now; newintervals = a.zs.now } in
-    travel-stays a.fit a.longest a.goal g a.instants.now _ a.octets.now _ _
-    (order_refuses a.fit a.longest a.goal g c.formed.result c.formed.ensures c.order.result c.order.ensures _ c.in-Refused.is) refl refl
+    (order-passes a.fit a.longest a.goal a.g.now _ c.formed.ensures _ c.order.ensures c.in_ok-order.was).fine
 
-pub returns-in-Done : goal.returns-in-Done
-returns-in-Done c =
+pub walk_to-requires-clause-goal : goal.walk_to-requires-clause-goal
+walk_to-requires-clause-goal c =
     let a = c.args in
-    let g : Timetable = record { times = a.x; octets = a.os.now; intervals = a.vs.now; newoctets = a.ws.now; newintervals = a.zs.now } in
-    let d = order-accepts a.fit a.longest a.goal g c.formed.result c.formed.ensures c.order.result c.order.ensures c.in-Done.is in
-    let k = travel-accepted a.fit a.longest a.goal g d in
-    travel-goes a.fit a.longest a.goal g a.instants.now _ a.octets.now _ d
-    (accepted-fine a.fit a.goal g k c.formed.result c.formed.ensures) _ _ c.walk_to-w.ensures
+    let p = order-passes a.fit a.longest a.goal a.g.now _ c.formed.ensures _ c.order.ensures c.in_ok-order.was in
+    (p.ahead, p.near)
+
+pub returns-in-Ok : goal.returns-in-Ok
+returns-in-Ok c =
+    let a = c.args in
+    let p = order-passes a.fit a.longest a.goal a.g.now _ c.formed.ensures _ c.order.ensures c.in_ok-order.was in
+    travel-comes a.fit a.longest a.goal a.g.now a.instants.now _ a.octets.now _ p c.walk_to.new.self (search rules) (search rules) c.in-Ok.ensures.walked
+
+pub returns-in-Err : goal.returns-in-Err
+returns-in-Err c =
+    let a = c.args in
+    let p = order-passes a.fit a.longest a.goal a.g.now _ c.formed.ensures _ c.order.ensures c.in_ok-order.was in
+    travel-ends a.fit a.longest a.goal a.g.now a.instants.now _ a.octets.now _ p c.walk_to.new.self (search rules) (search rules) _ c.in-Err.ensures.walked

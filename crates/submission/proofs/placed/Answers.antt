@@ -1,14 +1,16 @@
--- `submission::placed` meets its contract: its parts are those of the definition.
+-- `submission::placed` meets its contract: the list operates, or waits, with the numbers of the definition (`placed_parts`).
 -- Assumes nothing.
-use Rattle.std.proofs.Common.{◌%◌, ap, ◌∙◌}
-use Rattle.timetable.specs.Checks.{change_by}
-use Rattle.submission.specs.Placement.{placed_by, placed_times}
+use Rattle.std.proofs.Common.{le-leb}
+use Rattle.std.proofs.lemmas.Bool.{lt-leb}
+use Rattle.submission.proofs.Placing.{placed_parts}
 use Rattle.submission.proofs.placed.Goals as goal
 
+pub returns-then-start-clock : goal.returns-then-start-clock
+returns-then-start-clock c =
+    rw (le-leb _ _ c.if-start-clock.true)
+    at (placed_parts c.args.x c.args.len c.args.s _ _ _ _ c.cycle-cycle.ensures c.from-extension.ensures c.change_instant-start.ensures c.errors_for-errors.ensures)
+
 pub returns : goal.returns
-unfolding placed_times
 returns c =
-    let a = c.args in
-    let e = c.change_instant-start.ensures ∙ ap (λ n. change_by a.x.clock a.base n % 18446744073709551616) c.cycle_of-cycle.ensures in
-    c.placed_by.ensures
-    ∙ (λ i. placed_by a.len (c.cycle_of-cycle.ensures i) (c.wide-e.ensures.0 i) (e i) (c.errors_for-errors.ensures i) a.x)
+    rw (lt-leb _ _ c.if-start-clock.false)
+    at (placed_parts c.args.x c.args.len c.args.s _ _ _ _ c.cycle-cycle.ensures c.from-extension.ensures c.change_instant-start.ensures c.errors_for-errors.ensures)

@@ -1,12 +1,7 @@
--- `console::input::answer_lines` is safe and ends: the buffer keeps its length; the measure is what is left of the input.
+-- `console::input::answer_lines` answers no more than the octets given: what is left to cut is a part of them.
 -- Assumes nothing.
-use mathlib.Core.Path.{◌≡◌}
-use Prim.Native.Nat.{◌-◌}
-use lib.ListN.{length}
+use Rattle.std.proofs.Common.{◌≤◌, length}
 use Rattle.console.proofs.input.answer_lines.Given as goal
 
-abbrev pub invariant-loop-begun : goal.invariant-loop-begun
-invariant-loop-begun l = length l.out ≡ length l.initial.out
-
-abbrev pub decreases-loop-begun : goal.decreases-loop-begun
-decreases-loop-begun l = length l.s - l.begun
+abbrev pub invariant-loop-line : goal.invariant-loop-line
+invariant-loop-line l = length l.line-iterator.rest.now ≤ length l.initial.s

@@ -1,11 +1,7 @@
--- `console::input::serve` is safe and ends: the buffers keep their lengths; the measure is the number of turns that are left.
+-- `console::input::serve` is safe: what is not answered begins within what is taken, which lies in the buffer.
 -- Assumes nothing.
-use mathlib.Core.Path.{◌≡◌}
-use lib.ListN.{length}
+use Rattle.std.proofs.Common.{◌≡◌, ◌≤◌, length}
 use Rattle.console.proofs.input.serve.Given as goal
 
-abbrev pub invariant-loop-left : goal.invariant-loop-left
-invariant-loop-left g l = (length l.taken ≡ length l.initial.taken) × (length l.out ≡ length l.initial.out)
-
-abbrev pub decreases-loop-left : goal.decreases-loop-left
-decreases-loop-left g l = l.left
+abbrev pub invariant-loop : goal.invariant-loop
+invariant-loop g l = (l.begun ≤ l.used) × (l.used ≤ 1048576) × (length l.taken ≡ 1048577)

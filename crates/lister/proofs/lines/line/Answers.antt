@@ -1,7 +1,7 @@
 -- `lister::lines::line` meets its contract: a moment and a line end, one behind the other.
 -- Assumes nothing.
 use native.Mathlib.Omega.{arith}
-use Rattle.lister.proofs.Texts.{line-put, line-short}
+use Rattle.lister.proofs.Texts.{line-put, line_short}
 use Rattle.lister.proofs.lines.line.Goals as goal
 
 pub returns : goal.returns
@@ -9,5 +9,5 @@ returns c =
     let a = c.args in
     record {
       puts = line-put a.at a.out.now a.instant a.octet (omega arith) c.requires _ _ c.moment-at.ensures _ _ c.put.ensures;
-      octet_len_bound = line-short a.instant a.octet (omega arith);
+      octet_len_bound = line_short a.instant a.octet (omega arith);
     }

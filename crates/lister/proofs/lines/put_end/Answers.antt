@@ -1,6 +1,6 @@
 -- `lister::lines::put_end` meets its contract: its five pieces, one behind the other, are the port's last line.
 -- Assumes nothing.
-use mathlib.Core.Path.{sym, ◌∙◌}
+use mathlib.Core.Path.{sym}
 use native.Mathlib.Omega.{arith}
 use Rattle.lister.specs.Lines.{end_line, last_line}
 use Rattle.port.specs.Coding.{decode}
@@ -14,10 +14,8 @@ moment-at-requires c = let a = c.args in word_room a.page.now (omega arith) _ (o
 pub returns : goal.returns
 returns c =
     let a = c.args in
-    let p = a.p in
-    let f = c.requires in
-    let e = c.errors-count.ensures in
-    let t = c.clock-t.ensures ∙ sym (clock-decode p) in
-    fills_as _ (last_line (decode p)) _ _ _ (λ i. end_line (t i) (c.shown-octet.ensures i) ((e.0 ∙ sym (errors-decode p)) i))
-    (end_fills a.page.now (omega arith) _ _ (omega (arith, t, f.sound.gates.clock)) _ e.1
+    let p = a.span.port in
+    let t = clock-decode p in
+    fills_as _ (last_line (decode p)) _ _ _ (λ i. end_line (sym t i) (c.shown.ensures i) (sym (errors-decode p) i))
+    (end_fills a.page.now (omega arith) _ _ (omega (arith, t, a.span.ready.fine.sound.gates.clock)) _ (omega arith)
     _ _ c.put-at.ensures _ _ c.moment-at.ensures _ _ c.put-at-2.ensures _ _ c.decimal-at.ensures _ _ c.put.ensures)

@@ -7,5 +7,5 @@ use Rattle.lister.proofs.lines.put_refused.Goals as goal
 pub returns : goal.returns
 returns c =
     let a = c.args in
-    refused_fills a.page.now (omega arith) a.r _ c.number.ensures (omega arith) _ _ c.put-at.ensures _ _ c.decimal-at.ensures _ _
-    c.put.ensures
+    refused_fills a.page.now (omega arith) a.r _ (omega (arith, c.from.ensures, c.from-2.ensures)) (omega arith) _ _ c.put-at.ensures
+    _ _ c.decimal-at.ensures _ _ c.put.ensures

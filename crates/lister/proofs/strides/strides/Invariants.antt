@@ -5,8 +5,8 @@ use Prim.Native.Nat.{◌-◌}
 use Rattle.lister.specs.Pages.{clock_of, ListedUpTo}
 use Rattle.lister.proofs.strides.strides.Given as goal
 
-abbrev pub invariant-loop-p : goal.invariant-loop-p
-invariant-loop-p l = ListedUpTo l.p l.q l.end l.octets
+abbrev pub invariant-loop-rest : goal.invariant-loop-rest
+invariant-loop-rest l = ListedUpTo l.fn.span l.rest l.octets
 
-abbrev pub decreases-loop-p : goal.decreases-loop-p
-decreases-loop-p l = l.end - clock_of l.q
+abbrev pub decreases-loop-rest : goal.decreases-loop-rest
+decreases-loop-rest l = l.rest.end - clock_of l.rest.port

@@ -1,30 +1,20 @@
 -- `port::Port::look` meets its contract: one law for each way out.
 -- Assumes nothing.
 use Rattle.std.proofs.Common.{sym, ◌∙◌}
-use Rattle.port.proofs.Coding.{checked}
 use Rattle.port.proofs.Instants.{look-malformed, look_above, look-before, look-done}
 use Rattle.port.proofs.Port.look.Goals as goal
 
-pub returns-then-not-timed-sent : goal.returns-then-not-timed-sent
-returns-then-not-timed-sent c =
-    let p = c.args.self in
-    let w = checked p _ _ c.formed-timed.ensures c.frame_formed-sent.ensures in
-    look-malformed p _ (sym w.is ∙ c.if-not-timed-sent.true)
+pub returns-then-not-well_formed : goal.returns-then-not-well_formed
+returns-then-not-well_formed c = look-malformed c.args.self _ (sym c.well_formed-2.ensures.is ∙ c.if-not-well_formed.true)
 
 pub returns-then-t-gt-LARGEST_INSTANT : goal.returns-then-t-gt-LARGEST_INSTANT
 returns-then-t-gt-LARGEST_INSTANT c =
-    let p = c.args.self in
-    let w = checked p _ _ c.formed-timed.ensures c.frame_formed-sent.ensures in
-    look_above p _ (sym w.is ∙ c.if-not-timed-sent.false) c.if-t-gt-LARGEST_INSTANT.true
+    look_above c.args.self _ (sym c.well_formed-2.ensures.is ∙ c.if-not-well_formed.false) c.if-t-gt-LARGEST_INSTANT.true
 
-pub returns-then-t-x : goal.returns-then-t-x
-returns-then-t-x c =
-    let p = c.args.self in
-    let w = checked p _ _ c.formed-timed.ensures c.frame_formed-sent.ensures in
-    look-before p _ (sym w.is ∙ c.if-not-timed-sent.false) c.if-t-gt-LARGEST_INSTANT.false c.if-t-x.true
+pub returns-then-t-self : goal.returns-then-t-self
+returns-then-t-self c =
+    look-before c.args.self _ (sym c.well_formed-2.ensures.is ∙ c.if-not-well_formed.false) c.if-t-gt-LARGEST_INSTANT.false c.if-t-self.true
 
 pub returns : goal.returns
 returns c =
-    let p = c.args.self in
-    let w = checked p _ _ c.formed-timed.ensures c.frame_formed-sent.ensures in
-    look-done p _ (sym w.is ∙ c.if-not-timed-sent.false) _ c.if-t-gt-LARGEST_INSTANT.false c.if-t-x.false c.shown_at-octet.ensures
+    look-done c.args.self _ (sym c.well_formed-2.ensures.is ∙ c.if-not-well_formed.false) _ c.if-t-gt-LARGEST_INSTANT.false c.if-t-self.false c.shown_at.ensures

@@ -18,7 +18,7 @@ unfolding accepts
 done-requires c =
     let p = c.args.self in
     let k = c.well_formed-2.ensures.fine c.if-not-well_formed.false in
-    act-fine (model.gates model.on) p k refl _ (c.with_times-p.ensures ∙ gates-is model.on p _ k (on-is p.gates (gates-fine p k)))
+    act-fine (model.gates model.on) p k refl _ (gates-is model.on p _ k (on-is p.gates (gates-fine p k)))
 
 pub returns : goal.returns
 unfolding accepts
@@ -26,4 +26,4 @@ returns c =
     let p = c.args.self in
     let e = c.if-not-well_formed.false in
     let k = c.well_formed-2.ensures.fine e in
-    act-done (model.gates model.on) p k refl _ (c.with_times-p.ensures ∙ gates-is model.on p _ k (on-is p.gates (gates-fine p k))) _ (sym c.well_formed-2.ensures.is ∙ e) c.done.ensures
+    act-done (model.gates model.on) p k refl _ (gates-is model.on p _ k (on-is p.gates (gates-fine p k))) _ (sym c.well_formed-2.ensures.is ∙ e) c.done.ensures

@@ -21,7 +21,7 @@ bounds-v-i-then-b-f c =
 pub returns-then-b-f : goal.returns-then-b-f
 unfolding model.raise
 returns-then-b-f c =
-    rw (c.if-b-f.true, c.wrapping_add_u64-n.ensures.value)
+    rw c.if-b-f.true
 
 pub returns-else-b-f : goal.returns-else-b-f
 returns-else-b-f c =

@@ -9,4 +9,4 @@ returns-then-f-ne1 c =
 
 pub returns : goal.returns
 returns c =
-    tested-is c.args.p c.requires c.shown_at-octet.result c.shown_at-octet.ensures c.shut-met.result c.shut-met.ensures c.marked-frame.result c.marked-frame.ensures c.counted-overruns.result c.counted-overruns.ensures
+    tested-is c.args.p c.requires c.shown_at-octet.result c.shown_at-octet.ensures c.shut-met.result c.shut-met.ensures c.marked-q.result c.marked-q.ensures c.counted-q.result c.counted-q.ensures

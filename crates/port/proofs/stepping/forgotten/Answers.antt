@@ -4,7 +4,7 @@ use Rattle.port.proofs.stepping.forgotten.Goals as goal
 
 pub returns-then-f-t : goal.returns-then-f-t
 returns-then-f-t c =
-    rw (c.if-f-t.true, c.no_frame.ensures)
+    rw (c.if-f-t.true, c.none.ensures)
 
 pub returns : goal.returns
 returns c =

@@ -7,8 +7,8 @@ use Rattle.port.proofs.stepping.met_on.Goals as goal
 pub returns-then-f-ne1 : goal.returns-then-f-ne1
 returns-then-f-ne1 c =
     let a = c.args in
-    λ _. none_met a.f (ne_eqb a.f.present 1 c.if-f-ne1.true) _ a.x.clock _
+    λ _. none_met a.f (ne_eqb a.f.present 1 c.if-f-ne1.true) _ a.g.now.times.clock _
 
 pub returns : goal.returns
 returns c =
-    λ h. c.met.ensures _ h c.shown_at-octet.ensures
+    λ h. c.met.ensures _ h c.shown_at.ensures

@@ -1,16 +1,13 @@
--- `timetable::cursor::entry_from` meets its contract: one law for each way out.
+-- `timetable::cursor::entry_from` meets its contract: the last entry stops with the cycle, another one at its end or with the cycle.
 -- Assumes nothing.
-use Rattle.timetable.proofs.Cursors.{enters_last, enters_cut, enters_whole}
+use Rattle.std.proofs.Common.{◌∙◌, arith}
+use Rattle.timetable.proofs.Cursors.{enters_last, enters_rest}
 use Rattle.timetable.proofs.cursor.entry_from.Goals as goal
 
-pub returns-then-inner_entries-place : goal.returns-then-inner_entries-place
-returns-then-inner_entries-place c =
-    enters_last _ _ _ _ _ _ c.inner_entries.ensures c.if-inner_entries-place.true
+pub returns-then-last : goal.returns-then-last
+returns-then-last c =
+    enters_last _ _ _ _ _ _ (c.min.ensures ∙ omega (arith, c.saturating_sub.ensures)) c.if-last.true
 
-pub returns-then-minus-interval : goal.returns-then-minus-interval
-returns-then-minus-interval c =
-    enters_cut _ _ _ _ _ _ c.inner_entries.ensures c.if-inner_entries-place.false _ _ c.minus.ensures c.wide-interval.ensures.0 c.if-minus-interval.true
-
-pub returns : goal.returns
-returns c =
-    enters_whole _ _ _ _ _ _ c.inner_entries.ensures c.if-inner_entries-place.false _ _ c.minus.ensures c.wide-interval.ensures.0 c.if-minus-interval.false
+pub returns-else-last : goal.returns-else-last
+returns-else-last c =
+    enters_rest _ _ _ _ _ _ (c.min.ensures ∙ omega (arith, c.saturating_sub.ensures)) c.if-last.false _ _ c.from.ensures (omega (arith, c.min-stop.ensures, c.saturating_add.ensures))

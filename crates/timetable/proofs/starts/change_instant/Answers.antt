@@ -1,6 +1,6 @@
 -- `timetable::starts::change_instant` meets its contract: the base, or the start after the one that runs just before now.
 -- Assumes nothing.
-use Rattle.std.proofs.Common.{arith}
+use Rattle.std.proofs.Common.{refl, arith}
 use Rattle.timetable.proofs.Beginnings.{change_later, change_past}
 use Rattle.timetable.proofs.starts.change_instant.Goals as goal
 
@@ -10,4 +10,4 @@ returns-then-now-base c =
 
 pub returns : goal.returns
 returns c =
-    change_past _ _ _ c.if-now-base.false c.plain_start-running.result _ c.plain_start-running.ensures c.wrapping_add_u64.ensures.value
+    change_past _ _ _ c.if-now-base.false c.plain_start-running.result _ c.plain_start-running.ensures refl

@@ -1,0 +1,8 @@
+-- `gatelist::any_none` meets its contract: the loop's invariant is that `found` says it of the places so far.
+-- Assumes nothing.
+use Rattle.std.proofs.Common.{◌≡◌, take}
+use Rattle.std.specs.List.{list_any}
+use Rattle.gatelist.proofs.any_none.Given as goal
+
+abbrev pub invariant-loop-x : goal.invariant-loop-x
+invariant-loop-x g l = l.found ≡ list_any (λ x. g.T.PartialEq.eq x l.none) (take l.x-index l.places)

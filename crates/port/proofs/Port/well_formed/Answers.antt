@@ -1,0 +1,8 @@
+-- `port::Port::well_formed` meets its contract: the timetable's check and the frame's.
+-- Assumes nothing.
+use Rattle.port.proofs.Coding.{checked}
+use Rattle.port.proofs.Port.well_formed.Goals as goal
+
+pub returns : goal.returns
+returns c =
+    checked c.args.self.now _ _ c.formed-timed.ensures c.formed-sent.ensures

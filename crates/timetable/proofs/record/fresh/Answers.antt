@@ -1,8 +1,0 @@
--- `timetable::record::fresh` meets its contract: every field of a new timetable's record.
--- Assumes nothing.
-use Rattle.timetable.proofs.Coding.{new_record}
-use Rattle.timetable.proofs.record.fresh.Goals as goal
-
-pub returns : goal.returns
-returns c =
-    new_record _ _ _ c.empty-empty.ensures

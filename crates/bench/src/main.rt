@@ -9,7 +9,7 @@ use gatelist::GateList;
 use lists::{alternating, closing, counting, list_of, pair};
 use std::env::Env;
 use text::Scan;
-use work::set_up;
+use work::{cycle_of, set_up};
 
 // What is asked for: a case or `all`, and how often its work is to be done.
 #[derive(Clone, Copy)]
@@ -54,7 +54,7 @@ fn acts_and_looks(asked: &Asked) {
     asked.case(b"submit", |times| work::submits(p, l, times));
     asked.case(b"look", |times| work::looks(p, times));
     asked.case(b"check14", |times| {
-        let q = p.submit(l, 128, 1_000_000, 0, 1_000_000).port;
+        let q = p.submit(l, cycle_of(128, 1_000_000, 1_000_000)).port;
         let t = q.transmit([64u64; 8], 1000);
         work::checks(t.port, times)
     });
@@ -100,7 +100,7 @@ fn transmits(asked: &Asked) {
     });
     asked.case(b"transmit-change", |times| {
         let p = set_up(list_of(pair(128), 125, 128), 8, 1_000_000);
-        let next = p.submit(list_of(pair(8), 125, 128), 8, 1_000_000, 0, 15_000);
+        let next = p.submit(list_of(pair(8), 125, 128), cycle_of(8, 1_000_000, 15_000));
         work::transmits(next.port, 1500, 1000, times)
     });
 }

@@ -2,11 +2,22 @@
 use gatelist::GateList;
 use port::Port;
 use rule::Refusal;
+use submission::Submission;
+
+// A cycle in seconds from a base time on, with no extension.
+pub fn cycle_of(numerator: u32, denominator: u32, base: u64) -> Submission {
+    Submission {
+        numerator,
+        denominator,
+        extension: 0,
+        base,
+    }
+}
 
 // A port that is new at 5,000 with the standing octet FF, on, with a list that operates from 5,000.
 pub fn set_up(list: GateList, numerator: u32, denominator: u32) -> Port {
     let on = Port::new(5000, 0xff).port.on().port;
-    on.submit(list, numerator, denominator, 0, 5000).port
+    on.submit(list, cycle_of(numerator, denominator, 5000)).port
 }
 
 // What a call answers as a number: its value, or that of its refusal.
@@ -89,7 +100,7 @@ pub fn submits(p: Port, list: GateList, times: u64) -> u64 {
     let mut q = p;
     let mut sum: u64 = 0;
     for i in 0..times {
-        let a = q.submit(list, 128, 1_000_000, 0, 5000);
+        let a = q.submit(list, cycle_of(128, 1_000_000, 5000));
         q = a.port;
         sum = sum.wrapping_add(octet_at(&q.gates.octets, i));
         sum = sum.wrapping_add(q.gates.times.start);

@@ -2,13 +2,15 @@
 // listing is written. What is written is compared with crates/cases/stdout.
 #![tactic(auto)]
 
+use std::fmt;
+
 // The longest table, in octets, and the longest sheet that is tried.
 const TABLE: usize = 16384;
 
 const SHEET: usize = 2048;
 
 // Why it ends before the table does.
-#[derive(Clone, Copy)]
+#[derive(Clone, Copy, Debug, PartialEq, Eq)]
 enum Fault {
     Unread,
     TooLong,
@@ -16,15 +18,15 @@ enum Fault {
     NotDone,
 }
 
-impl Fault {
-    // What standard error says of it.
-    fn message(self) -> &'static [u8] {
-        match self {
-            Fault::Unread => b"cases: standard input cannot be read",
-            Fault::TooLong => b"cases: the table is too long",
-            Fault::NoEnd => b"cases: the last line has no end",
-            Fault::NotDone => b"cases: a line is no sheet, or cannot be written",
-        }
+// What standard error says of it.
+impl fmt::Display for Fault {
+    fn fmt<W: fmt::Write>(&self, f: &mut fmt::Formatter<W>) -> fmt::Result {
+        f.write_str(match self {
+            Fault::Unread => "cases: standard input cannot be read",
+            Fault::TooLong => "cases: the table is too long",
+            Fault::NoEnd => "cases: the last line has no end",
+            Fault::NotDone => "cases: a line is no sheet, or cannot be written",
+        })
     }
 }
 
@@ -60,9 +62,7 @@ fn rows(table: &[u8]) -> Result<(), Fault> {
 
 fn run(rt: &impl std::io::Input) -> Result<(), Fault> {
     let mut table = [0u8; TABLE];
-    let Ok(n) = text::take_all(rt, &mut table) else {
-        return Err(Fault::Unread);
-    };
+    let n = text::take_all(rt, &mut table).map_err(|_| Fault::Unread)?;
     if TABLE <= n {
         return Err(Fault::TooLong);
     }
@@ -71,6 +71,6 @@ fn run(rt: &impl std::io::Input) -> Result<(), Fault> {
 
 fn main(rt: HostRuntime) {
     if let Err(fault) = run(&rt) {
-        text::complain(fault.message());
+        let _ = eprintln!(rt; "{fault}");
     }
 }

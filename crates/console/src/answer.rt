@@ -36,14 +36,7 @@ impl<'a> Line<'a> {
     }
 
     // Puts numbers, a space before each.
-    pub fn numbers(&mut self, xs: &[u64]) {
-        for x in xs {
-            self.number(*x);
-        }
-    }
-
-    // Puts octets as numbers, a space before each.
-    pub fn octets(&mut self, xs: &[u8]) {
+    pub fn numbers<N: Copy + Into<u64>>(&mut self, xs: &[N]) {
         for x in xs {
             self.number(*x);
         }

@@ -1,5 +1,5 @@
 // The calls on a port, and the line that one stands in. A call takes the tokens behind its word; it is none, and changes nothing, unless every token fits its place and the
-// line is at its end.
+// line is at its end. It is handed what it needs of three: the tokens, the port, the line of the answer.
 use crate::answer::Line;
 use crate::coded::{call_read, call_write};
 use crate::lists::take_list;
@@ -7,6 +7,7 @@ use crate::record::{say_port, take_numbers, take_port};
 use frames::{FrameTime, Sending};
 use port::{Acted, Port};
 use rule::Refusal;
+use submission::Submission;
 use text::Scan;
 
 // What a line with a call's word answers; none where it is no call.
@@ -79,10 +80,16 @@ fn call_submit(mut s: Scan, port: &mut Port, strict: bool, line: &mut Line) -> O
     let base = s.number()?;
     let list = take_list(&mut s, len)?;
     s.end()?;
+    let submission = Submission {
+        numerator,
+        denominator,
+        extension,
+        base,
+    };
     let done = if strict {
-        port.submit_strict(list, numerator, denominator, extension, base)
+        port.submit_strict(list, submission)
     } else {
-        port.submit(list, numerator, denominator, extension, base)
+        port.submit(list, submission)
     };
     acted(done, port, line)
 }
@@ -122,7 +129,7 @@ fn call_step(mut s: Scan, port: &mut Port, line: &mut Line) -> Option<()> {
     *port = stepped.port;
     line.written(stepped.answer);
     line.numbers(instants);
-    line.octets(octets);
+    line.numbers(octets);
     Some(())
 }
 

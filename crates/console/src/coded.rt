@@ -41,6 +41,6 @@ pub fn call_write(mut s: Scan, line: &mut Line) -> Option<()> {
     let list = take_list(&mut s, len)?;
     s.end()?;
     line.written(octets::write(list, buffer));
-    line.octets(buffer);
+    line.numbers(buffer);
     Some(())
 }

@@ -4,26 +4,27 @@ ghost use Rattle.std.specs.Prelude.{◌≤◌, length, IfOk};
 use crate::answer::Line;
 use crate::calls::call;
 use port::Port;
+use std::fmt;
 
 // The octets that are taken at most.
 pub const LONGEST: usize = 1048576;
 
 // Why it ends before the input does.
-#[derive(Clone, Copy)]
+#[derive(Clone, Copy, Debug, PartialEq, Eq)]
 pub enum Fault {
     Unread,
     Unwritten,
     TooLong,
 }
 
-impl Fault {
-    // What standard error says of it.
-    pub fn message(self) -> &'static [u8] {
-        match self {
-            Fault::Unread => b"console: standard input cannot be read",
-            Fault::Unwritten => b"console: standard output cannot be written",
-            Fault::TooLong => b"console: the input has more than 1048576 octets",
-        }
+// What standard error says of it.
+impl fmt::Display for Fault {
+    fn fmt<W: fmt::Write>(&self, f: &mut fmt::Formatter<W>) -> fmt::Result {
+        f.write_str(match self {
+            Fault::Unread => "console: standard input cannot be read",
+            Fault::Unwritten => "console: standard output cannot be written",
+            Fault::TooLong => "console: the input has more than 1048576 octets",
+        })
     }
 }
 
@@ -58,7 +59,7 @@ fn answer_lines(s: &[u8], port: &mut Port, out: &mut [u8]) -> Result<usize, Faul
 
 // Answers the input to its end; there, also a last line with no line end. Each turn but the last takes an octet, so there are no more turns than octets.
 pub fn serve(
-    rt: &impl std::io::Input,
+    rt: &(impl Input + Eprint),
     taken: &mut [u8; LONGEST + 1],
     out: &mut [u8; 131072],
 ) -> Result<(), Fault> {
@@ -66,9 +67,7 @@ pub fn serve(
     let mut begun = 0;
     let mut used = 0;
     for _ in 0..LONGEST + 2 {
-        let Ok(now) = text::take(rt, taken, used) else {
-            return Err(Fault::Unread);
-        };
+        let now = text::take(rt, taken, used).map_err(|_| Fault::Unread)?;
         if now == used {
             return answer(&taken[begun..used], &mut port, out);
         }
@@ -77,7 +76,7 @@ pub fn serve(
         if LONGEST < used {
             // An answer that could not be written is said besides.
             if let Err(fault) = left {
-                text::complain(fault.message());
+                let _ = eprintln!(rt; "{fault}");
             }
             io::write_all(1, b"input too long\n");
             return Err(Fault::TooLong);

@@ -13,6 +13,6 @@ fn main(rt: HostRuntime) {
     let mut taken = [0u8; input::LONGEST + 1];
     let mut out = [0u8; 131072];
     if let Err(fault) = input::serve(&rt, &mut taken, &mut out) {
-        text::complain(fault.message());
+        let _ = eprintln!(rt; "{fault}");
     }
 }

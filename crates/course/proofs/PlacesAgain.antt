@@ -16,6 +16,10 @@ times_some k zero h = omega (arith, mul-zero k)
 times_some k (suc c) h = omega arith
 
 module _ (count n a b r : ℕ) (free : r ≡ min a b - n) (k : ℕ) (upto : k * count ≤ r) where
+  -- so many periods fit (docs/PORT.md names it; the check finds this where it is asked)
+  pub free_fits : n < 18446744073709551616 → a < 18446744073709551616 → n + k * count < 18446744073709551616
+  free_fits h l = omega arith
+
   -- so many can be repeated
   pub free_can_repeat : count ≤ n → CanRepeat count n (n + k * count) a b
   free_can_repeat held = record {

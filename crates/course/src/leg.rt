@@ -25,9 +25,9 @@ fn base_at(base: u64, period: u64, t: u64) -> u64
 
 impl<'a> Leg<'a> {
     // What of it comes before an instant.
-    pub fn until(self, edge: u64) -> Leg<'a>
-        requires { (self.stretch.from < edge) × (edge ≤ self.stretch.edge) }
-        ensures { result.stretch ≡ until_edge self.entry.stretch edge }
+    pub fn until(&self, edge: u64) -> Leg<'a>
+        requires { (self.now.stretch.from < edge) × (edge ≤ self.now.stretch.edge) }
+        ensures { result.stretch ≡ until_edge self.now.stretch edge }
     {
         Leg {
             stretch: Stretch {
@@ -37,11 +37,11 @@ impl<'a> Leg<'a> {
         }
     }
 
-    // From the next instant on.
-    pub fn after_first(self) -> Leg<'a>
-        requires { self.stretch.from + 1 < self.stretch.edge }
-        ensures base { BaseAt self.entry.stretch.base self.entry.stretch.period (self.entry.stretch.from + 1) result.stretch.base }
-        ensures rest { result.stretch ≡ with_base self.entry.stretch result.stretch.base (self.entry.stretch.from + 1) }
+    // From its second instant on.
+    pub fn after_first(&self) -> Leg<'a>
+        requires { self.now.stretch.from + 1 < self.now.stretch.edge }
+        ensures base { BaseAt self.now.stretch.base self.now.stretch.period (self.now.stretch.from + 1) result.stretch.base }
+        ensures rest { result.stretch ≡ with_base self.now.stretch result.stretch.base (self.now.stretch.from + 1) }
     {
         let s = self.stretch;
         let from = s.from + 1;
@@ -52,9 +52,9 @@ impl<'a> Leg<'a> {
     }
 
     // From an instant on that is whole periods later: as far into its cycle.
-    pub fn later(self, from: u64) -> Leg<'a>
-        requires { (self.stretch.from ≤ from) × (from < self.stretch.edge) }
-        ensures { result.stretch ≡ by_cycles self.entry.stretch from }
+    pub fn later(&self, from: u64) -> Leg<'a>
+        requires { (self.now.stretch.from ≤ from) × (from < self.now.stretch.edge) }
+        ensures { result.stretch ≡ by_cycles self.now.stretch from }
     {
         let s = self.stretch;
         let base = s.base + (from - s.from);

@@ -22,7 +22,7 @@ pub struct Reached {
 
 // A walk: the octet shown where it has come to, how many changes it has written up to there, and the buffers lent for them. One that cannot go on, as its
 // next change finds no room, answers with an Err what the travel comes to.
-// Each method promises SameLoans: a ghost field that says it needs a bound with the loans' names, picked at a call, and a type argument on each: no plainer.
+// Each method promises SameLoans, that it holds the same loans: as a ghost field it did not prove where a walk is made, since its slices are lent anew there.
 #[derive(Drop)]
 struct Walk<'a> {
     octet: u8,
@@ -45,7 +45,7 @@ fn order(malformed: bool, longest: u64, goal: u64, clock: u64) -> Result<(), Ref
 
 // Walks a timetable from its clock to a goal, by at most the longest step. `fit` says that the rest of the record that it stands in is well formed. Each
 // change is written, instant and octet, from place 0 on, and every other place stays as it was; where a change has no room, the walk ends 1 ns before it.
-// Refused: 14, 9, 10, 11. The two buffers are lent apart, as they are by the C interface.
+// Refused: 14, 9, 10, 11. The two buffers are lent apart, as a step lends them (`Steps`).
 pub fn travel(
     g: &Timetable,
     fit: bool,

@@ -25,7 +25,7 @@ fn repeat_later(count: usize, time: u64, n: usize, end: usize, instants: &mut [u
     requires { CanRepeat count n end (length instants.old) (length instants.old) }
     ensures { WrittenAgain (later time) count n end instants.old instants.new }
 {
-    // By index: each place is read from the same buffer.
+    // By index: each place is read from the buffer that it is written to, of which the check knows the length alone behind `iter_mut`.
     for i in n..end {
         let from = i - count;
         instants[i] = instants[from].wrapping_add(time);
@@ -71,9 +71,9 @@ impl Walk<'_> {
 
     // Walks a stretch, where the changes written since there were so many are those of the period before it: repeats them as often as it can, and walks
     // what is left.
-    fn walk_repeating(&mut self, leg: Leg<'_>, since: usize) -> Result<(), Reached>
+    fn walk_repeating(&mut self, leg: &Leg<'_>, since: usize) -> Result<(), Reached>
         ensures loans { SameLoans self.old self.new }
-        ensures walked { AgainPromise leg.entry.stretch since self.old result self.new }
+        ensures walked { AgainPromise leg.now.stretch since self.old result self.new }
     {
         let s = leg.stretch;
         let edge = s.edge;
@@ -82,32 +82,33 @@ impl Walk<'_> {
         if edge <= next {
             return Ok(());
         }
-        self.walk_list(leg.later(next))
+        let rest = leg.later(next);
+        self.walk_list(&rest)
     }
 
     // Walks a stretch longer than a round: its first instant, the round of one period after that, and then by rounds.
-    fn walk_long(&mut self, leg: Leg<'_>) -> Result<(), Reached>
-        requires { leg.stretch.from + 1 + leg.stretch.period < leg.stretch.edge }
+    fn walk_long(&mut self, leg: &Leg<'_>) -> Result<(), Reached>
+        requires { leg.now.stretch.from + 1 + leg.now.stretch.period < leg.now.stretch.edge }
         ensures loans { SameLoans self.old self.new }
-        ensures walked { WalkPromise leg.entry.stretch self.old result self.new }
+        ensures walked { WalkPromise leg.now.stretch self.old result self.new }
     {
         let second = leg.stretch.from + 1;
         let next = second + leg.stretch.period;
         let one = leg.until(second);
-        self.walk_list(one)?;
+        self.walk_list(&one)?;
         let since = self.written;
         let rounds = leg.after_first();
         let round = rounds.until(next);
-        self.walk_list(round)?;
+        self.walk_list(&round)?;
         let rest = rounds.later(next);
-        self.walk_repeating(rest, since)
+        self.walk_repeating(&rest, since)
     }
 
     // Walks a stretch in which a list rules. One octet all through its cycles is passed at once, however many they are; of many cycles, the changes of one
     // are repeated.
-    pub fn walk_ruled(&mut self, leg: Leg<'_>) -> Result<(), Reached>
+    pub fn walk_ruled(&mut self, leg: &Leg<'_>) -> Result<(), Reached>
         ensures loans { SameLoans self.old self.new }
-        ensures walked { WalkPromise leg.entry.stretch self.old result self.new }
+        ensures walked { WalkPromise leg.now.stretch self.old result self.new }
     {
         let s = leg.stretch;
         let octets = s.list.octets;

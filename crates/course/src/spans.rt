@@ -28,7 +28,7 @@ impl Walk<'_> {
                         edge: span.edge,
                     },
                 };
-                self.walk_ruled(leg)
+                self.walk_ruled(&leg)
             }
         }
     }

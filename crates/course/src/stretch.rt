@@ -36,9 +36,9 @@ impl Walk<'_> {
     }
 
     // Walks a stretch entry by entry.
-    pub fn walk_list(&mut self, leg: Leg<'_>) -> Result<(), Reached>
+    pub fn walk_list(&mut self, leg: &Leg<'_>) -> Result<(), Reached>
         ensures loans { SameLoans self.old self.new }
-        ensures walked { WalkPromise leg.entry.stretch self.old result self.new }
+        ensures walked { WalkPromise leg.now.stretch self.old result self.new }
     {
         let s = leg.stretch;
         let octets = s.list.octets;

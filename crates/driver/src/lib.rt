@@ -9,7 +9,7 @@ use port::Port;
 use rule::Refusal;
 
 // What a lent transmit answers, in numbers: that of the refusal, or 0; and whether a frame was chosen (1) or not (0), with its class, start, last octet
-// and earliest next start. What does not apply is 0.
+// and earliest next start. What does not apply is 0. Numbers and marks, and no Result: it is the C interface's (include/port.h).
 #[repr(C)]
 #[derive(Clone, Copy, Debug, Default, PartialEq, Eq)]
 pub struct Answer {

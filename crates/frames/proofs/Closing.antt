@@ -183,6 +183,23 @@ module _ (l : Entries) (limit : ℕ) (ends : List ℕ) where
   goes-start place from g a = record { after = omega arith; within = a; later = omega arith; sums = λ b e. e; told = λ h t wanted base lo c e a b p. p }
 
   -- the entry at i begins, and the octet of it is shown
+  -- two walks are one (docs/PORT.md names it; one loop goes both now)
+  pub goes_on_lem : (place from i u k at : ℕ) (g r s : Gates) → Goes l place from limit ends g i u r → Goes l i u limit ends r k at s
+      → Goes l place from limit ends g k at s
+  goes_on_lem place from i u k at g r s x y =
+      let a = x.after in
+      let b = y.after in
+      let c = x.later in
+      let d = y.later in
+      record {
+        after = omega arith;
+        within = y.within;
+        later = omega arith;
+        sums = λ base e. y.sums base (x.sums base e);
+        told = λ h t wanted base lo c e f m p.
+            y.told h t wanted base lo c (x.sums base e) (λ z. omega (arith, f (omega arith))) m (x.told h t wanted base lo c e f m p);
+      }
+
   pub goes-more : (place from i u : ℕ) (g r s : Gates) → Goes l place from limit ends g i u r → i < n → u < limit → 0 < get_or vs i 0
       → Narrows (get_or os i 0) u ends r s → (x : ℕ) → x ≡ get_or vs i 0 → Goes l place from limit ends g (i + 1) (u + x) s
   goes-more place from i u g r s w a b z y x q =

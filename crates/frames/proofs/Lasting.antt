@@ -1,6 +1,6 @@
 -- How long a frame takes, by the time of an octet; and the ways out of `duration`, each with what it knows.
 -- Assumes nothing.
-use Rattle.std.proofs.Common.{◌≡◌, ℕ, ◌+◌, ◌*◌, ◌/◌, ◌<◌, ◌≤◌, true, false, leb, sym, refl, ap₂, ◌∙◌, leb-true, arith}
+use Rattle.std.proofs.Common.{◌≡◌, ℕ, ◌+◌, ◌*◌, ◌/◌, ◌<◌, ◌≤◌, Bool, true, false, not, true≢false, leb, sym, refl, ap₂, ◌∙◌, leb-true, arith}
 use Rattle.std.specs.Prelude.{Ok, Err}
 use Rattle.rule.specs.Limits.{shortest_frame, longest_frame}
 use Rattle.rule.specs.declared.Refusal.TheVariants.{Speed, HeadLength}
@@ -23,6 +23,15 @@ speed_some v e = omega (arith, (speed_range v e).0)
 pub few-octets : (n : ℕ) → frame_offered n ≡ true → n ≤ longest_frame
 unfolding frame_offered
 few-octets n q = leb-true n longest_frame (both (leb shortest_frame n) (leb n longest_frame) q).1
+
+-- a test that fails, and one that holds (docs/PORT.md names them; the check goes by the tests themselves)
+pub fails : (a b : Bool) → a ≡ b → not a ≡ true → b ≡ false
+fails true b e q = absurd (true≢false (sym q))
+fails false b e q = sym e
+
+pub holds : (a b : Bool) → a ≡ b → not a ≡ false → b ≡ true
+holds true b e q = sym e
+holds false b e q = absurd (true≢false q)
 
 -- the ways out
 

@@ -13,8 +13,8 @@ use gatelist::Entries;
 use timetable::{Span, Stretch, Timetable};
 
 // What a walk knows of the gates: the classes whose gates it has found open all the way, and those whose gates it has met closed, but not before the ends
-// of their frames.
-#[derive(Clone, Copy)]
+// of their frames. The ends are lent beside it and are no field: a walk changes the one and reads the other, and its laws (`Tells`) speak of both.
+#[derive(Clone, Copy, Debug, PartialEq, Eq)]
 pub struct Gates {
     pub left: u8,
     pub ended: u8,
@@ -25,6 +25,7 @@ fn ended_by(octet: u8, ends: &[u64; 8], at: u64) -> u8
     ensures { Forms (closed_by octet ends.now at) 8 result }
 {
     let mut q: u8 = 0;
+    // The place is the class.
     for (k, end) in ends.iter().enumerate() {
         let class = k as u8;
         let is_one = gatelist::gate(octet, class);
@@ -65,12 +66,13 @@ impl Gates {
     {
         let mut g = self;
         let mut at = from;
+        // By number: the entries from a place on, of both arrays.
         for k in place..list.len {
             if limit <= at {
                 return g;
             }
             let octet = list.octets[k];
-            // tested here too: in `narrowed` alone, an entry that closes no class takes 13 instructions and not 11 (missed the speed of before)
+            // Tested here too: in `narrowed` alone, an entry that closes no class takes 13 instructions and not 11 (missed the speed of before)
             if g.left & octet != g.left {
                 g = g.narrowed(octet, at, ends);
                 if g.left == 0 {

@@ -43,6 +43,7 @@ fn asked(heads: [u64; 8], speed: u64, t: u64) -> Ends
     let mut wanted: u8 = 0;
     let mut last = t;
     let mut each = [0u64; 8];
+    // The place is the class.
     for (k, len) in heads.iter().enumerate() {
         let end = t + (len + 8) * octet_time;
         each[k] = end;

@@ -42,7 +42,8 @@ fn declined(g: &Timetable, f: Frame, heads: [u64; 8], speed: u64) -> Result<(), 
     first(!good, Refusal::MalformedPort, fast)
 }
 
-// What a transmit decides, by the lengths at the heads of the eight queues (0: empty) and the speed in Mbit/s, on a timetable and a frame.
+// What a transmit decides, by the lengths at the heads of the eight queues (0: empty) and the speed in Mbit/s, on a timetable and a frame. Heads and speed come
+// apart, as C hands them in (include/port.h).
 pub fn decide(g: &Timetable, f: Frame, heads: [u64; 8], speed: u64) -> Decided
     ensures { Decides heads speed g.now f result }
 {

@@ -6,6 +6,7 @@ ghost use Rattle.frames.specs.Lengths.{OctetTime, Lasts};
 use crate::FrameTime;
 use rule::Refusal;
 
+// A speed in Mbit/s.
 #[tactic(auto, using(crate::proofs::Decisions::speed_test))]
 pub fn speed_offered(speed: u64) -> bool
     ensures { result ≡ speed_offered speed }

@@ -12,9 +12,9 @@ pub use lengths::duration;
 use rule::Refusal;
 
 // The frame being sent: the marks, 0 or 1, that it is there and that its overrun has been counted, its class, and the instants at which it starts, at which
-// its last octet is out, and from which on the next frame may start. All zeros if absent.
+// its last octet is out, and from which on the next frame may start. All zeros if absent. Marks, and no Option: the record is the C interface's.
 #[repr(C)]
-#[derive(Clone, Copy, Debug, PartialEq, Eq)]
+#[derive(Clone, Copy, Debug, Default, PartialEq, Eq)]
 pub struct Frame {
     pub present: u8,
     pub class: u8,

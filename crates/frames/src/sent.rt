@@ -26,14 +26,7 @@ impl Frame {
     pub fn none() -> Self
         ensures { result ≡ no_frame }
     {
-        Self {
-            present: 0,
-            class: 0,
-            counted: 0,
-            start: 0,
-            last: 0,
-            end: 0,
-        }
+        Self::default()
     }
 
     // The frame as an answer, if it is there.

@@ -21,7 +21,7 @@ pub struct GateList {
 
 // An entry of a list, counted from 0, and the stretch of offsets that it covers: from start to before end.
 #[repr(C)]
-#[derive(Clone, Copy)]
+#[derive(Clone, Copy, Debug, PartialEq, Eq)]
 pub struct Place {
     pub number: usize,
     pub start: u64,
@@ -37,7 +37,7 @@ pub struct Entries<'a> {
 }
 
 // Whether a place holds the default. This loop and the next leave no place out and never leave early, so that many places are compared at a time: with `all`
-// they take four times the instructions.
+// they take four times the instructions, with a fold some more.
 fn any_none<T: Copy + Default + PartialEq>(places: &[T]) -> bool
     ensures { TestsNone T.is_default (λ is. result ≡ list_any (λ x. T.eq x is) places.now) }
 {
@@ -69,7 +69,7 @@ fn intervals_ok(intervals: &[u32; 128], len: usize) -> bool
     !any_none(&intervals[..len.min(GateList::MAX)])
 }
 
-// Every used interval is not 0, and every unused place is 0 in both arrays.
+// Every used interval is not 0, and every unused place is 0 in both arrays. Of each array by itself, so no method of `Entries`.
 fn places_ok<'a>(octets: &'a [u8; 128], intervals: &'a [u32; 128], len: usize) -> bool
     ensures octets { length octets.now ≡ 128 }
     ensures intervals { length intervals.now ≡ 128 }
@@ -117,6 +117,7 @@ pub fn put<T: Copy + Default>(from: &[T; 128], len: usize, into: &mut [T; 128])
     let none = [T::default(); 128];
     let n = len.min(GateList::MAX);
     *into = none;
+    // Through an index the array that is lent anew did not prove.
     let (used, _) = into[..].split_at_mut(n);
     used.copy_from_slice(&from[..n]);
 }

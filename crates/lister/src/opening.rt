@@ -11,6 +11,7 @@ use octets::ReadError;
 use port::Port;
 use rule::Refusal;
 use sheet::Sheet;
+use submission::Submission;
 
 // The port of a sheet with its list: made, switched on, submitted to; and a step to the end is accepted, which has no room and so writes nothing.
 fn with_list(h: Sheet, list: GateList) -> Result<Span, Refusal>
@@ -19,7 +20,13 @@ fn with_list(h: Sheet, list: GateList) -> Result<Span, Refusal>
     let made = Port::new(h.start, h.standing);
     made.answer?;
     let on = made.port.on().port;
-    let done = on.submit(list, h.numerator, h.denominator, h.extension, h.base);
+    let submission = Submission {
+        numerator: h.numerator,
+        denominator: h.denominator,
+        extension: h.extension,
+        base: h.base,
+    };
+    let done = on.submit(list, submission);
     done.answer?;
     let port = done.port;
     port.step(h.end, &mut [], &mut []).answer?;

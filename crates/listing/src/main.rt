@@ -7,10 +7,10 @@ use lister::Cut;
 fn main(rt: HostRuntime) {
     let mut octets = [0u8; 1025];
     let Ok(n) = text::take_all(&rt, &mut octets) else {
-        text::complain(b"listing: standard input cannot be read");
+        let _ = eprintln!(rt; "listing: standard input cannot be read");
         return;
     };
     if let Err(Cut) = lister::list(&octets[..n]) {
-        text::complain(b"listing: standard output cannot be written");
+        let _ = eprintln!(rt; "listing: standard output cannot be written");
     }
 }

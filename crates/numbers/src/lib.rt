@@ -47,6 +47,7 @@ fn size(n: u64) -> usize
 {
     let mut rest = n;
     let mut k: usize = 1;
+    // The rest is divided; what is counted goes with it.
     while 128 <= rest {
         rest /= 128;
         k += 1;
@@ -62,6 +63,7 @@ fn put(n: u64, out: &mut [u8])
 {
     let mut rest = n;
     let mut i: usize = 0;
+    // The rest is divided; the place goes with it.
     while 128 <= rest {
         out[i] = (128 + rest % 128) as u8;
         rest /= 128;

@@ -56,7 +56,7 @@ pub fn write(list: GateList, buffer: &mut [u8]) -> Result<usize, Refusal>
     if buffer.len() < count {
         return Err(Refusal::BufferShort);
     }
-    // By index: the buffer's parts and the two arrays go in step, and a chain over the three is no plainer (here and in `read`).
+    // By index, here and in `read`: the buffer's parts and the two arrays go in step, and behind `chunks_exact_mut` or `zip` of `iter_mut` the check knows their lengths alone.
     for i in 0..len {
         entry::write_entry(&mut buffer[7 * i..], list.octets[i], list.intervals[i]);
     }

@@ -6,7 +6,6 @@ pub mod Travelling
 pub mod Overruns
 pub mod Performing
 pub mod Submissions
-pub mod Instants
 pub mod Transmissions
 pub mod Unique
 pub mod Carried

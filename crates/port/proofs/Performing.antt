@@ -1,28 +1,29 @@
--- Each way out of an act and of `new`. In order: an act that is malformed, refused or done; what each act makes of the record; a new port.
+-- Each way out of an act, refused or done; and what an act on the gates makes of the record.
 -- Assumes nothing.
-use Rattle.std.proofs.Common.{◌≡◌, ℕ, ◌<◌, ◌≤◌, Bool, true, false, cond, not, sym, refl, ap, ◌∙◌, true≢false, arith, le-ltb, lt-ltb}
+use Rattle.std.proofs.Common.{◌≡◌, Bool, true, false, cond, not, sym, refl, ap, ◌∙◌, true≢false}
 use mathlib.Core.Option.{Option, none, some}
-use Rattle.rule.specs.Limits.{largest_instant}
 use Rattle.std.specs.Prelude.{Ok, Err}
+use Rattle.std.specs.Result.{is_ok}
 use Rattle.rule.specs.declared.Refusal.{Refusal}
-use Rattle.rule.specs.declared.Refusal.TheVariants.{MalformedPort, AboveLargest}
+use Rattle.rule.specs.declared.Refusal.TheVariants.{MalformedPort}
 use Rattle.rule.specs.Refusals.{first_of, accepted, answer_number, Answer}
 use Rattle.rule.specs.Answers.{answer_of}
 use Rattle.rule.specs.Acts.{Act, GateAct, gates, perform_gates, performed, perform}
-use Rattle.rule.specs.Orders.{act_order, new_order, accepts}
+use Rattle.rule.specs.Orders.{act_order, accepts}
 use Rattle.rule.specs.Port as model
 use Rattle.rule.proofs.Sound.{performed-sound}
 use Rattle.timetable.specs.declared.Timetable.{Timetable}
 use Rattle.timetable.specs.Coding as timetable
+use Rattle.timetable.specs.Checks as checks
 use Rattle.port.specs.declared.Port.{Port}
 use Rattle.port.specs.declared.Acted.{Acted}
 use Rattle.port.specs.Record.{well_formed}
 use Rattle.port.specs.Coding.{decode, encode}
-use Rattle.port.specs.Checks.{Fine}
-use Rattle.port.specs.Acts.{declines, after, Performs, Makes}
-use Rattle.port.specs.Updates.{refused_with, done_with, with_gates}
+use Rattle.port.specs.Checks.{Fine, Checked}
+use Rattle.port.specs.Acts.{declines, after, Performs}
+use Rattle.port.specs.Updates.{done_with, with_gates}
 use Rattle.port.proofs.Numbers.{number_of_lem}
-use Rattle.port.proofs.Coding.{decode-encode, encoded_fine}
+use Rattle.port.proofs.Coding.{decode-encode, encoded_fine, gates-fine}
 use Rattle.port.proofs.Overruns.{tested_none}
 
 -- an act
@@ -31,14 +32,14 @@ accepted_none : (o : Option Refusal) → accepted o ≡ true → o ≡ none
 accepted_none none e = refl
 accepted_none (some r) e = absurd (true≢false (sym e))
 
+accepted_ok : (o : Option Refusal) → accepted o ≡ is_ok (answer_of o)
+accepted_ok none = refl
+accepted_ok (some r) = refl
+
 module _ (a : Act) (p : Port) where
   -- by its answer
   performs_by : (r : Acted Unit) → r.answer ≡ answer_of (declines a p) → r.port ≡ after a p → Performs a p r
   performs_by r e q = record { number = ap answer_number e ∙ number_of_lem (declines a p); port = q }
-
-  pub act-malformed : (r : Acted Unit) → well_formed p ≡ false → r ≡ refused_with MalformedPort p → Performs a p r
-  unfolding declines after
-  act-malformed r e l = performs_by r (ap (λ (x : Acted Unit). x.answer) l ∙ rw e) (ap (λ (x : Acted Unit). x.port) l ∙ rw e)
 
   module _ (k : Fine p) (e : accepts a (decode p) ≡ true) (q : Port) (h : q ≡ encode (performed a (decode p))) where
     pub act-fine : Fine q
@@ -58,21 +59,13 @@ module _ (a : Act) (p : Port) where
         act-done (record { answer = answer; port = q }) w (λ i. record { answer = d i; port = tested_none q act-fine f i })
 
   module _ (answer : Answer) (is : answer ≡ answer_of (declines a p)) where
-    refused-not : (o : Option Refusal) (r : Refusal) → answer_of o ≡ Err r → accepted o ≡ false
-    refused-not none r x = let z : ◌≡◌ {A = ℕ} 0 1 = cc in absurd (omega arith)
-    refused-not (some q) r x = refl
-
-    done-accepted : (o : Option Refusal) → answer_of o ≡ (Ok tt) → accepted o ≡ true
-    done-accepted none x = refl
-    done-accepted (some q) x = let z : ◌≡◌ {A = ℕ} 0 1 = cc in absurd (omega arith)
-
     pub act-refused : (r : Refusal) → answer ≡ Err r → Performs a p (record { answer = answer; port = p })
     unfolding after
-    act-refused r e = let z = refused-not (declines a p) r (sym is ∙ e) in performs_by (record { answer = answer; port = p }) is (rw z)
+    act-refused r e = let z = accepted_ok (declines a p) ∙ ap is_ok (sym is ∙ e) in performs_by (record { answer = answer; port = p }) is (rw z)
 
     pub act-accepted : answer ≡ (Ok tt) → (well_formed p ≡ true) × (accepts a (decode p) ≡ true)
     unfolding declines accepts
-    act-accepted e = go (well_formed p) (done-accepted (declines a p) (sym is ∙ e))
+    act-accepted e = go (well_formed p) (accepted_ok (declines a p) ∙ ap is_ok (sym is ∙ e))
       where
         go : (b : Bool) → accepted (cond (not b) (some MalformedPort) (first_of (act_order a (decode p)))) ≡ true
             → (b ≡ true) × (accepted (first_of (act_order a (decode p))) ≡ true)
@@ -85,13 +78,7 @@ pub gates-is : (a : GateAct) (p : Port) (g : Timetable) → Fine p → g ≡ tim
 unfolding decode encode
 gates-is a p g k e = λ i. record { frame = ap (λ (q : Port). q.frame) (sym k.whole) i; gates = e i; overruns = p.overruns }
 
--- a new port
-
-module _ (start octet : ℕ) (q : Port) where
-  pub new-refused : largest_instant < start → q ≡ encode (model.new_port 0 0) → Makes start octet (record { answer = Err AboveLargest; port = q })
-  unfolding new_order
-  new-refused h e = record { number = rw (lt-ltb largest_instant start h); port = e ∙ sym (rw (lt-ltb largest_instant start h)) }
-
-  pub new-done : start ≤ largest_instant → q ≡ encode (model.new_port start octet) → Makes start octet (record { answer = (Ok tt); port = q })
-  unfolding new_order
-  new-done h e = record { number = rw (le-ltb largest_instant start h); port = e ∙ sym (rw (le-ltb largest_instant start h)) }
+-- after an act on the gates that no order refuses it is fine
+pub acted_fine : (a : GateAct) (p : Port) (b : Bool) → Checked p b → b ≡ true → accepts (gates a) (decode p) ≡ true → (g : Timetable)
+    → (checks.Fine p.gates → g ≡ timetable.encode (perform_gates a (timetable.decode p.gates))) → Fine (with_gates g p)
+acted_fine a p b w e u g is = let k = w.fine e in act-fine (gates a) p k u (with_gates g p) (gates-is a p g k (is (gates-fine p k)))

@@ -1,11 +1,11 @@
 -- What a frame met in a step, read back from the changes that the step wrote: change by change, until one meets a closed gate, the frame has ended, or no
 -- change is left.
 -- Assumes nothing.
-use Rattle.std.proofs.Common.{◌≡◌, ℕ, zero, suc, ◌+◌, ◌-◌, ◌<◌, ◌≤◌, max, Bool, true, false, not, ◌&&◌, ◌||◌, ltb, List, [], ◌∷◌, map, length, get_or, drop, sym, refl, ap, ◌∙◌, subst, ap₂, add-one, arith, drop_of_length-le, drop-cons}
+use Rattle.std.proofs.Common.{◌≡◌, ℕ, suc, ◌+◌, ◌-◌, ◌<◌, ◌≤◌, max, Bool, true, false, ◌||◌, List, [], map, length, get_or, drop, sym, refl, ap, ◌∙◌, subst, ap₂, add-one, arith, drop_of_length-le, drop-cons}
 use mathlib.Core.Path.{subst⁻¹}
-use mathlib.Core.Option.{Option, none, some}
+use mathlib.Core.Option.{Option, none}
 use lib.ListN.{length-map, get_or-append}
-use Rattle.rule.specs.Gates.{is_open}
+use Rattle.std.proofs.lemmas.List.{get_or-map}
 use Rattle.rule.specs.Port.{Frame, last_octet_at}
 use Rattle.rule.specs.History.{changes}
 use Rattle.rule.proofs.Jump.{meets, meets_none}
@@ -21,15 +21,7 @@ use Rattle.port.specs.Meeting.{Holds, MetBy}
 get_d_into : (f : ℕ × ℕ → ℕ) (l : List (ℕ × ℕ)) (buf now : List ℕ) (i : ℕ) → now ≡ into (map f l) buf → i < length l → get_or now i 0 ≡ f (get_or l i (0, 0))
 unfolding into
 get_d_into f l buf now i e h =
-    ap (λ r. get_or r i 0) e ∙ get_or-append (map f l) _ 0 i (omega (arith, length-map l f)) ∙ mapped l i h
-  where
-    mapped : (l : List (ℕ × ℕ)) (i : ℕ) → i < length l → get_or (map f l) i 0 ≡ f (get_or l i (0, 0))
-    mapped [] i h = absurd (omega arith)
-    mapped (x ∷ l) zero h = refl
-    mapped (x ∷ l) (suc i) h = mapped l i (omega arith)
-
-later-max : (c f v : ℕ) → c ≤ f → f < v → max v (c + 1) - 1 - c ≡ v - 1 - c
-later-max c f v h k = let e : max v (c + 1) ≡ v = omega arith in ap (λ m. m - 1 - c) e
+    ap (λ r. get_or r i 0) e ∙ get_or-append (map f l) _ 0 i (omega (arith, length-map l f)) ∙ get_or-map f l i (0, 0) 0 h
 
 meets_nothing : (g : ℕ → ℕ) (c n : ℕ) → meets g c n none ≡ false
 unfolding meets
@@ -99,18 +91,14 @@ module _ (g : ℕ → ℕ) (clock end n : ℕ) (at os : List ℕ) (w : Holds g c
           let a = change_after in
           sym (meets-later g clock (get_or at i 0 - 1 - clock) (end - clock) r (omega arith) (sym met_change ∙ e))
 
-      behind-ended : (f : Frame) → r ≡ some f → shut_in r shown (max from (clock + 1)) (get_or at i 0) ≡ false → last_octet_at f ≤ get_or at i 0
+      behind_over : (b : Bool) (f : Frame) → r ≡ present b f → shut_in r shown (max from (clock + 1)) (get_or at i 0) ≡ false → last_octet_at f ≤ get_or at i 0
           → false ≡ meets g clock (end - clock) r
-      behind-ended f q e l =
+      behind_over true f q e l =
           let a = change_after in
           let b = k.later in
           sym e ∙ met_change ∙ ap (meets g clock (get_or at i 0 - 1 - clock)) q
           ∙ sym (meets-ended g clock (get_or at i 0 - 1) end f (omega arith) (omega arith) (omega arith))
           ∙ ap (meets g clock (end - clock)) (sym q)
-
-      behind_over : (b : Bool) (f : Frame) → r ≡ present b f → shut_in r shown (max from (clock + 1)) (get_or at i 0) ≡ false → last_octet_at f ≤ get_or at i 0
-          → false ≡ meets g clock (end - clock) r
-      behind_over true f q e l = behind-ended f q e l
       behind_over false f q e l = sym (ap (meets g clock (end - clock)) q ∙ meets_nothing g clock (end - clock))
 
       behind_more : shut_in r shown (max from (clock + 1)) (get_or at i 0) ≡ false → Behind r (i + 1) (get_or at i 0) (get_or os i 0)
@@ -122,7 +110,7 @@ module _ (g : ℕ → ℕ) (clock end n : ℕ) (at os : List ℕ) (w : Holds g c
           let u = k.upto in
           let c : ℕ = (get_or told i (0, 0)).0 in
           let d : from + (end - from) - c ≡ end - c = omega arith in
-          let z : max (get_or at i 0) (clock + 1) - 1 - clock ≡ get_or at i 0 - 1 - clock = later-max clock from (get_or at i 0) b a.0 in
+          let z : max (get_or at i 0) (clock + 1) - 1 - clock ≡ get_or at i 0 - 1 - clock = omega (arith, a.0) in
           record {
             later = omega arith;
             upto = a.1;
@@ -174,16 +162,6 @@ module _ (f : record-frame.Frame) (octet clock end n : ℕ) (at os : List ℕ) w
 
     pub back_last : n ≤ i → (b : Bool) → b ≡ shut_in (decode_frame f) shown lo (end + 1) → MetBy f octet clock end n at os b
     back_last h b e g w o = sym (tested (end + 1) b e) ∙ behind-last g clock end n at os w (decode_frame f) i from shown (k g w o) h
-
--- the closed gate as the record has it
-pub shut_in-is : (f : record-frame.Frame) (o lo hi : ℕ)
-    → is_marked f.present && (not (is_marked f.counted) && (ltb lo hi && (ltb lo f.last && not (is_open o f.class)))) ≡ shut_in (decode_frame f) o lo hi
-unfolding shut_in decode_frame last_octet_at
-shut_in-is f o lo hi = go (is_marked f.present)
-  where
-    go : (b : Bool) → b && (not (is_marked f.counted) && (ltb lo hi && (ltb lo f.last && not (is_open o f.class)))) ≡ shut_in (present b (sent_frame f)) o lo hi
-    go true = refl
-    go false = refl
 
 -- no frame meets nothing
 pub none_met : (f : record-frame.Frame) → is_marked f.present ≡ false → (g : ℕ → ℕ) (c n : ℕ) → false ≡ meets g c n (decode_frame f)

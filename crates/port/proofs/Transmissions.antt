@@ -44,44 +44,32 @@ module _ (heads : List ℕ) (speed : ℕ) (m : model.Port) where
 -- a decision on the record's parts is the act on the record
 
 module _ (heads : List ℕ) (speed : ℕ) (p : Port) where
-  declines-is : declines (transmit heads speed) p ≡ send_declines heads speed p.gates p.frame
-  unfolding declines send_declines well_formed decode
-  declines-is = refl
-
-  sends-is : (performed (transmit heads speed) (decode p)).frame ≡ begun heads speed (timetable.decode p.gates)
-  unfolding decode
-  sends-is = refl
-
   module _ (r : Decided) (k : Decides heads speed p.gates p.frame r) where
     answered : r.answer ≡ choice_of (declines (transmit heads speed) p) (performed (transmit heads speed) (decode p)).frame
-    answered = k.answer ∙ (λ i. choice_of (sym declines-is i) (sym sends-is i))
-
-    -- accepted: the record with the frame is the port with the frame
-    begins : send_declines heads speed p.gates p.frame ≡ none
-        → with_frame r.frame p ≡ cond (accepted (declines (transmit heads speed) p)) (encode (perform (transmit heads speed) (decode p))) p
-    begins e =
-        let z = k.fine e in
-        let q : Fine p = fine_parts p z.0 z.1 in
-        let f : r.frame ≡ encode_frame (performed (transmit heads speed) (decode p)).frame =
-        k.frame ∙ ap (λ o. cond (accepted o) (encode_frame (begun heads speed (timetable.decode p.gates))) p.frame) e ∙ ap encode_frame (sym sends-is) in
-        ap (λ (h : Frame). with_frame h p) f ∙ framed q
-        ∙ ap encode (sym (transmit-perform heads speed (decode p)))
-        ∙ sym (ap (λ o. cond (accepted o) (encode (perform (transmit heads speed) (decode p))) p) (declines-is ∙ e))
-      where
-        framed : Fine p → with_frame (encode_frame (performed (transmit heads speed) (decode p)).frame) p
-            ≡ encode (record { gates = (decode p).gates; frame = (performed (transmit heads speed) (decode p)).frame; overruns = (decode p).overruns })
-        framed q = unfold decode encode in ap (with_frame (encode_frame (performed (transmit heads speed) (decode p)).frame)) (sym q.whole)
+    unfolding declines send_declines well_formed decode
+    answered = k.answer
 
     stored : with_frame r.frame p ≡ after (transmit heads speed) p
-    unfolding after
+    unfolding after declines send_declines well_formed decode
     stored = go (send_declines heads speed p.gates p.frame) refl
       where
+        f : Option model.Frame
+        f = begun heads speed (timetable.decode p.gates)
+
+        framed : Fine p → with_frame (encode_frame f) p ≡ encode (record { gates = (decode p).gates; frame = f; overruns = (decode p).overruns })
+        framed q = unfold decode encode in ap (with_frame (encode_frame f)) (sym q.whole)
+
         go : (o : Option Refusal) → send_declines heads speed p.gates p.frame ≡ o
-            → with_frame r.frame p ≡ cond (accepted (declines (transmit heads speed) p)) (encode (perform (transmit heads speed) (decode p))) p
-        go none e = begins e
+            → with_frame r.frame p ≡ cond (accepted (send_declines heads speed p.gates p.frame)) (encode (perform (transmit heads speed) (decode p))) p
+        go none e =
+            let z = k.fine e in
+            ap (λ (h : Frame). with_frame h p) (k.frame ∙ ap (λ o. cond (accepted o) (encode_frame f) p.frame) e)
+            ∙ framed (fine_parts p z.0 z.1)
+            ∙ ap encode (sym (transmit-perform heads speed (decode p)))
+            ∙ sym (ap (λ o. cond (accepted o) (encode (perform (transmit heads speed) (decode p))) p) e)
         go (some w) e =
-            let f : r.frame ≡ p.frame = k.frame ∙ ap (λ o. cond (accepted o) (encode_frame (begun heads speed (timetable.decode p.gates))) p.frame) e in
-            ap (λ (f : Frame). with_frame f p) f ∙ sym (ap (λ o. cond (accepted o) (encode (perform (transmit heads speed) (decode p))) p) (declines-is ∙ e))
+            ap (λ (h : Frame). with_frame h p) (k.frame ∙ ap (λ o. cond (accepted o) (encode_frame f) p.frame) e)
+            ∙ sym (ap (λ o. cond (accepted o) (encode (perform (transmit heads speed) (decode p))) p) e)
 
     pub transmit_stores : Stores heads speed p (record { answer = r.answer; port = with_frame r.frame p })
     transmit_stores = record {

@@ -2,7 +2,9 @@
 -- step that is refused (`step_stays`); what can be read back of a travel that goes (`legible`, `holds`); the port where it ends (`step-goes`),
 -- also where only the clock moves (`step_still`).
 -- Assumes nothing.
-use Rattle.std.proofs.Common.{◌≡◌, ℕ, ◌+◌, ◌-◌, ◌≤◌, min, Bool, true, false, not, ◌&&◌, ◌||◌, leb, List, ◌∷◌, map, length, drop, sym, refl, ap, ◌∙◌, true≢false, arith, length-append}
+use Rattle.std.proofs.Common.{◌≡◌, ℕ, ◌+◌, ◌-◌, ◌≤◌, min, Bool, false, not, ◌&&◌, ◌||◌, leb, List, ◌∷◌, map, length, drop, sym, refl, ap, ◌∙◌, arith, length-append}
+use Rattle.std.proofs.Math.Bool.{and_comm}
+use Rattle.std.proofs.lemmas.Bool.{or_parts}
 use mathlib.Core.Path.{subst⁻¹}
 use mathlib.Core.Option.{Option, none, some}
 use lib.ListN.{length-map}
@@ -48,22 +50,12 @@ use Rattle.port.proofs.Sending.{marked-is, counted_is, forgotten-is}
 
 -- the order of refusals: the port is well formed if its timetable and its frame are
 
-both_ways : (a b : Bool) → a && b ≡ b && a
-both_ways true true = refl
-both_ways true false = refl
-both_ways false true = refl
-both_ways false false = refl
-
 declines-is : (p : Port) (goal : ℕ) (fit : Bool) → fit ≡ frame_formed p.frame p.gates.times.clock
     → step_declines goal p ≡ travel_declines fit largest_step goal p.gates
 unfolding step_declines travel_declines well_formed decode
 declines-is p goal fit e =
     ap (λ b. first_of ((not b, MalformedPort) ∷ step_order largest_step goal (timetable.decode p.gates)))
-    (both_ways (timetable_formed p.gates) (frame_formed p.frame p.gates.times.clock) ∙ ap (λ f. f && timetable_formed p.gates) (sym e))
-
-neither : (a b : Bool) → a || b ≡ false → (a ≡ false) × (b ≡ false)
-neither true b e = absurd (true≢false e)
-neither false b e = (refl, e)
+    (and_comm (timetable_formed p.gates) (frame_formed p.frame p.gates.times.clock) ∙ ap (λ f. f && timetable_formed p.gates) (sym e))
 
 -- what was written can be read back
 column_fits : (f : ℕ × ℕ → ℕ) (l : List (ℕ × ℕ)) (buf now : List ℕ) (n : ℕ) → n ≡ length l → now ≡ into (map f l) buf → n ≤ length now
@@ -172,6 +164,6 @@ module _ (p : Port) (goal : ℕ) (at at' os os' : List ℕ) (fit : Bool) (is : f
     pub step_still : is_marked p.frame.present || (is_marked p.gates.times.waits && leb p.gates.times.change e) ≡ false
         → Steps p goal at at' os os' (record { answer = Ok n; port = with_gates (with_times (clocked e p.gates.times) p.gates) p })
     step_still z =
-        let a = neither (is_marked p.frame.present) (is_marked p.gates.times.waits && leb p.gates.times.change e) z in
+        let a = or_parts (is_marked p.frame.present) (is_marked p.gates.times.waits && leb p.gates.times.change e) z in
         step-goes false (λ _. none_met p.frame a.0 (gates.shown (timetable.decode p.gates)) clock (e - clock)) p.overruns refl p.frame refl p.frame
         (sym (rw a.0)) (with_times (clocked e p.gates.times) p.gates) (sym (rw a.1))

@@ -34,8 +34,9 @@ pub fn done(p: Port) -> Acted<()>
     }
 }
 
+#[tactic(auto, unfolding(crate::specs::Acts::declines, crate::specs::Acts::after, crate::specs::Coding::decode, rule::specs::Acts::perform, rule::specs::Orders::new_order, timetable::specs::Coding::decode))]
 impl Port {
-    // A port at an instant, off, with a standing octet and zero counters. Refused: 9.
+    // A port at an instant, off, with a standing octet and zero counters. Refused: 9. No Result of a port alone: a refused one hands back zeros (`Makes`).
     pub fn new(start: u64, standing: u8) -> Acted<()>
         ensures { Makes start standing result }
     {

@@ -6,6 +6,7 @@ use rule::Refusal;
 
 impl Port {
     // The octet at an instant, if no further act comes. Refused: 14, 9, 10.
+    #[tactic(auto, unfolding(crate::specs::Acts::look_declines, rule::specs::Orders::look_order, crate::specs::Coding::decode, timetable::specs::Coding::decode))]
     pub fn look(self, t: u64) -> Result<u8, Refusal>
         ensures { Looks self t result }
     {

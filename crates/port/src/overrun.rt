@@ -10,6 +10,7 @@ use crate::Port;
 use frames::Frame;
 
 // The frame on the wire at an instant, not counted, has its gate closed in the octet.
+#[tactic(auto, unfolding(frames::specs::Frame::decode_frame, rule::specs::Port::last_octet_at))]
 fn shut(f: Frame, octet: u8, t: u64) -> bool
     ensures { result ≡ model.overran t octet (decode_frame f) }
 {
@@ -28,6 +29,7 @@ pub fn marked(f: Frame, b: bool) -> Frame
 }
 
 // The counters, that of the frame's class one more if it is there and b says so.
+#[tactic(auto, unfolding(rule::specs::Timetable::raise))]
 pub fn counted(overruns: [u64; 8], f: Frame, b: bool) -> [u64; 8]
     ensures { result ≡ counted_for b f overruns }
 {
@@ -40,6 +42,7 @@ pub fn counted(overruns: [u64; 8], f: Frame, b: bool) -> [u64; 8]
 }
 
 // The port after the overrun test.
+#[tactic(auto, using(crate::proofs::Overruns::tested_none, crate::proofs::Overruns::tested_is))]
 pub fn tested(p: Port) -> Port
     requires { Fine p }
     ensures { result ≡ encode (model.tested (decode p)) }

@@ -19,6 +19,7 @@ impl Port {
     }
 
     // A port that is off, at an instant, with a standing octet and zero counters.
+    #[tactic(auto, unfolding(crate::specs::Coding::encode, rule::specs::Port::new_port))]
     pub(crate) fn fresh(start: u64, octet: u8) -> Self
         ensures { result ≡ encode (new_port start octet) }
     {

@@ -16,6 +16,8 @@ use frames::Frame;
 use timetable::Timetable;
 
 // A frame being sent, not counted, whose gate is closed in the octet at an instant from lo on, before hi and before its last octet is out.
+// Not by `shut`: so it is the model's `shut_in` test by test, and proves by its definition.
+#[tactic(auto, unfolding(rule::proofs::Walk::shut_in, frames::specs::Frame::decode_frame, rule::specs::Port::last_octet_at))]
 fn shut_in(f: Frame, octet: u8, lo: u64, hi: u64) -> bool
     ensures { result ≡ shut_in (decode_frame f) octet lo hi }
 {
@@ -30,7 +32,7 @@ fn met(f: Frame, octet: u8, clock: u64, reached: Reached, instants: &[u64], octe
 {
     let mut from = clock;
     let mut shown = octet;
-    // By index: of each buffer the first places alone are written.
+    // By index: the laws of reading back (`Back`, `Holds`) speak of places, of which the first alone are written.
     for i in 0..reached.written {
         let change = instants[i];
         if shut_in(f, shown, from.max(clock + 1), change) {
@@ -46,6 +48,7 @@ fn met(f: Frame, octet: u8, clock: u64, reached: Reached, instants: &[u64], octe
 }
 
 // The same for a timetable; with no frame being sent nothing is looked at.
+#[tactic(auto, using(crate::proofs::Reading::none_met))]
 fn met_on(g: &Timetable, f: Frame, reached: Reached, instants: &[u64], octets: &[u8]) -> bool
     requires { Legible g.now.times.clock reached.at reached.written instants.now octets.now }
     ensures { MetOn (shown (timetable.decode g.now)) f g.now.times.clock reached.at reached.written instants.now octets.now result }

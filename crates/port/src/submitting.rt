@@ -23,6 +23,7 @@ fn too_late(x: Times, strict: bool) -> bool
 }
 
 // Stores the numbers of a timetable that a submission was placed in, and the list where they say that it belongs: no part is copied.
+#[tactic(auto, unfolding(gatelist::specs::Places::cleaned_list, gatelist::specs::Coding::padded))]
 fn place(g: &mut Timetable, x: Times, list: &GateList)
     ensures { g.new ≡ listed_in (cleaned_list list.now) x g.old }
 {
@@ -33,12 +34,12 @@ fn place(g: &mut Timetable, x: Times, list: &GateList)
     } else {
         gatelist::put(&list.octets, list.len, &mut g.octets);
         gatelist::put(&list.intervals, list.len, &mut g.intervals);
-        gatelist::put(&list.octets, 0, &mut g.newoctets);
-        gatelist::put(&list.intervals, 0, &mut g.newintervals);
+        g.newoctets = [0; 128];
+        g.newintervals = [0; 128];
     }
 }
 
-// A submission, strict or not: refused, or with its numbers and its list where they belong in the one record.
+// A submission, strict or not (`submit_act`): refused, or with its numbers and its list where they belong in the one record.
 fn submitted(port: Port, strict: bool, list: GateList, s: Submission) -> Acted<()>
     ensures { Performs (model.gates (submit_act strict (submission list s.numerator s.denominator s.extension s.base))) port result }
 {
@@ -59,42 +60,16 @@ fn submitted(port: Port, strict: bool, list: GateList, s: Submission) -> Acted<(
 
 impl Port {
     // Submits a list with its cycle in seconds, its extension in nanoseconds and its base time, in the place of what waits. Refused: 14, 6, 7, 8, 9, 5, 4.
-    pub fn submit(
-        self,
-        list: GateList,
-        numerator: u32,
-        denominator: u32,
-        extension: u32,
-        base: u64,
-    ) -> Acted<()>
-        ensures { Performs (model.gates (model.submit (submission list numerator denominator extension base))) self result }
+    pub fn submit(self, list: GateList, s: Submission) -> Acted<()>
+        ensures { Performs (model.gates (model.submit (submission list s.numerator s.denominator s.extension s.base))) self result }
     {
-        let s = Submission {
-            numerator,
-            denominator,
-            extension,
-            base,
-        };
         submitted(self, false, list, s)
     }
 
     // The same while nothing waits. Refused: 14, 6, 7, 8, 9, 5, 4.
-    pub fn submit_strict(
-        self,
-        list: GateList,
-        numerator: u32,
-        denominator: u32,
-        extension: u32,
-        base: u64,
-    ) -> Acted<()>
-        ensures { Performs (model.gates (model.strict (submission list numerator denominator extension base))) self result }
+    pub fn submit_strict(self, list: GateList, s: Submission) -> Acted<()>
+        ensures { Performs (model.gates (model.strict (submission list s.numerator s.denominator s.extension s.base))) self result }
     {
-        let s = Submission {
-            numerator,
-            denominator,
-            extension,
-            base,
-        };
         submitted(self, true, list, s)
     }
 }

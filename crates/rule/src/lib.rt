@@ -52,7 +52,8 @@ impl From<Refusal> for u8 {
     }
 }
 
-// An order of refusals is a chain of tests: the first that holds gives its reason, else the rest of the chain answers.
+// An order of refusals is a chain of tests: the first that holds gives its reason, else the rest of the chain answers. No early returns: such a chain is one
+// list, the order of the documents (`Chain`), and what it says is `first_unique`'s.
 #[tactic(auto, unfolding(crate::specs::Answers::first_answer))]
 pub fn first(test: bool, reason: Refusal, rest: Result<(), Refusal>) -> Result<(), Refusal>
     ensures { First test reason rest result }

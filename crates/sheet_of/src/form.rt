@@ -58,7 +58,7 @@ pub struct Form {
     pub list: GateList,
 }
 
-// A word as a number: decimal, or hexadecimal after 0x.
+// A word as a number: decimal, or hexadecimal after 0x. Not by crate text's, which is decimal alone and does not say what is wrong.
 fn number<T: TryFrom<u64>>(word: &[u8]) -> Result<T, Fault>
 where
     T::Error: Drop,

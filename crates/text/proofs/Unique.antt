@@ -6,14 +6,14 @@ use mathlib.Core.List.{List}
 use Prim.Native.Nat.{ℕ}
 use Rattle.std.specs.Prelude.{Option}
 use Rattle.text.specs.Put.{put_at, PutsBehind}
-use Rattle.text.specs.Scan.{first_scan, token_of, behind_token, at_end, find_from, same_octets}
+use Rattle.text.specs.Scan.{whole_line, token_of, behind_token, none_left, find_from, same_octets}
 use Rattle.text.proofs.Putting.{put_unique}
 
 pub spaced_unique : (s t : List ℕ) (at : ℕ) (b : List ℕ) (m n : ℕ) (x y : List ℕ) → PutsBehind s t at b m x → PutsBehind s t at b n y → (m ≡ n) × (x ≡ y)
 spaced_unique s t at b m n x y p q = put_unique t (put_at s at b).next (put_at s at b).buffer m n x y p q
 
-pub start_unique : (s : List ℕ) (x y : Option (List ℕ)) → x ≡ first_scan s → y ≡ first_scan s → x ≡ y
-start_unique s x y p q = p ∙ sym q
+pub new_unique : (s : List ℕ) (x y : Option (List ℕ)) → x ≡ whole_line s → y ≡ whole_line s → x ≡ y
+new_unique s x y p q = p ∙ sym q
 
 pub token_unique : (c x y : Option (List ℕ)) → x ≡ token_of c → y ≡ token_of c → x ≡ y
 token_unique c x y p q = p ∙ sym q
@@ -21,8 +21,8 @@ token_unique c x y p q = p ∙ sym q
 pub left_unique : (c x y : Option (List ℕ)) → x ≡ behind_token c → y ≡ behind_token c → x ≡ y
 left_unique c x y p q = p ∙ sym q
 
-pub at_end_unique : (c : Option (List ℕ)) (x y : Bool) → x ≡ at_end c → y ≡ at_end c → x ≡ y
-at_end_unique c x y p q = p ∙ sym q
+pub end_unique : (c : Option (List ℕ)) (x y : Bool) → x ≡ none_left c → y ≡ none_left c → x ≡ y
+end_unique c x y p q = p ∙ sym q
 
 pub same_unique : (a b : List ℕ) (x y : Bool) → x ≡ same_octets a b → y ≡ same_octets a b → x ≡ y
 same_unique a b x y p q = p ∙ sym q

@@ -17,8 +17,8 @@ abbrev pub left_of : Scan → Option (List ℕ)
 left_of c = option_copied c.rest
 
 -- at its first token a scan has the whole line left
-abbrev pub first_scan : List ℕ → Option (List ℕ)
-first_scan s = Some s
+abbrev pub whole_line : List ℕ → Option (List ℕ)
+whole_line s = Some s
 
 -- the next token, up to a space
 abbrev pub token_of : Option (List ℕ) → Option (List ℕ)
@@ -30,9 +30,9 @@ abbrev pub behind_token : Option (List ℕ) → Option (List ℕ)
 behind_token None = None
 behind_token (Some s) = cond (ltb (before 32 s) (length s)) (Some (drop (before 32 s + 1) s)) None
 
--- the whole line is taken
-abbrev pub at_end : Option (List ℕ) → Bool
-at_end left = is_none left
+-- no token is left: the whole line is taken
+abbrev pub none_left : Option (List ℕ) → Bool
+none_left left = is_none left
 
 -- the value of a hexadecimal digit, `0` to `9`, `A` to `F`, `a` to `f`; 16 for any other octet
 abbrev pub hex_value : ℕ → ℕ

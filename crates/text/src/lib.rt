@@ -1,5 +1,5 @@
 // Text for people, in ASCII: octets and numbers put into a lent buffer at a place, and numbers taken from a line. Putting answers the next place; what does
-// not fit is left out, and the buffer and the place stay as they were. They are two parameters and no struct, since `Puts` and the laws over it speak of both.
+// not fit is left out, and the buffer and the place stay as they were. They are two parameters and no struct: a page's promise (`Fills`, of lister) names the buffer, and `Puts` both.
 #![tactic(auto)]
 
 ghost use Rattle.std.specs.Prelude.{◌≡◌, [], ◌∷◌, ◌<◌};
@@ -11,8 +11,8 @@ mod scan;
 mod stream;
 
 pub use digits::{from_hex, hex_value};
-pub use scan::{Scan, find, part};
-pub use stream::{complain, take, take_all};
+pub use scan::{Scan, find};
+pub use stream::{take, take_all};
 
 // Puts octets at a place.
 pub fn put(out: &mut [u8], at: usize, s: &[u8]) -> usize
@@ -26,7 +26,7 @@ pub fn put(out: &mut [u8], at: usize, s: &[u8]) -> usize
     end
 }
 
-// A digit of 0 to 15 in upper case.
+// A digit of 0 to 15 in upper case. By hand, as is `hex`: its promise says the two digits one by one (`hex_of`).
 fn glyph(d: u8) -> u8
     requires { d < 16 }
     ensures { result ≡ glyph_of d }
@@ -60,7 +60,7 @@ pub fn spaced(out: &mut [u8], at: usize, n: u64) -> usize
 }
 
 // Writes the first n octets of a buffer to standard output, and answers whether all were taken: not if there are fewer, or if a write fails. A bool,
-// as of `io::write_all`: no reason comes with it.
+// as of `io::write_all`: no reason comes with it. Of a buffer as `put` leaves it: the place that it answered is how many there are.
 pub fn show(out: &[u8], n: usize) -> bool {
     out.get(..n).is_some_and(|s| io::write_all(1, s))
 }

@@ -12,11 +12,11 @@ pub struct Scan<'a> {
 
 impl<'a> Scan<'a> {
     ghost use Rattle.std.specs.Prelude.{option_copied};
-    ghost use Rattle.text.specs.Scan.{left_of, first_scan, token_of, behind_token, at_end};
+    ghost use Rattle.text.specs.Scan.{left_of, whole_line, token_of, behind_token, none_left};
 
     // The scan at a line's first token.
     pub fn new(line: &'a [u8]) -> Scan<'a>
-        ensures { left_of result ≡ first_scan line.now }
+        ensures { left_of result ≡ whole_line line.now }
     {
         Scan { rest: Some(line) }
     }
@@ -36,10 +36,11 @@ impl<'a> Scan<'a> {
         }
     }
 
-    // The next token as a number in decimal that its type holds.
+    // The next token as a number in decimal that its type holds. The token is taken also where it is none.
     pub fn number<T: TryFrom<u64>>(&mut self) -> Option<T>
     where
         T::Error: Drop,
+        ensures { left_of self.new ≡ behind_token (left_of self.old) }
     {
         let value = decimal_value(self.token()?)?;
         T::try_from(value).ok()
@@ -47,7 +48,7 @@ impl<'a> Scan<'a> {
 
     // Whether the whole line is taken.
     pub fn end(self) -> Option<()>
-        ensures { is_some result ≡ at_end (left_of self.entry) }
+        ensures { is_some result ≡ none_left (left_of self.entry) }
     {
         match self.rest {
             Some(_) => None,
@@ -64,9 +65,4 @@ pub fn find(s: &[u8], at: usize, octet: u8) -> usize
         return at;
     };
     at + rest.iter().position(|x| *x == octet).unwrap_or(rest.len())
-}
-
-// A part of a line; none where it is not in the line.
-pub fn part(s: &[u8], first: usize, end: usize) -> &[u8] {
-    s.get(first..end).unwrap_or(&s[..0])
 }

@@ -1,4 +1,4 @@
-// Standard input and standard error. A read that fails is told apart from the input's end.
+// Standard input. A read that fails is told apart from the input's end.
 ghost use Rattle.std.specs.Prelude.{length};
 ghost use Rattle.text.specs.Input.{Takes};
 
@@ -21,6 +21,7 @@ pub fn take_all(rt: &impl std::io::Input, out: &mut [u8]) -> Result<usize>
     ensures { Takes 0 (length out.old) result }
 {
     let mut used: usize = 0;
+    // No count: it goes on until a read brings nothing.
     while used < out.len() {
         let n = take(rt, out, used)?;
         if n <= used {
@@ -29,10 +30,4 @@ pub fn take_all(rt: &impl std::io::Input, out: &mut [u8]) -> Result<usize>
         used = n;
     }
     Ok(used)
-}
-
-// Says what went wrong, on a line of standard error. By the kit's io: std's eprintln would want the runtime at each call, and a result that nobody reads.
-pub fn complain(s: &[u8]) {
-    io::write_all(2, s);
-    io::write_all(2, b"\n");
 }

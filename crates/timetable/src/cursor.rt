@@ -3,10 +3,10 @@
 ghost use Rattle.std.specs.Prelude.{◌≡◌};
 ghost use Rattle.timetable.specs.Cursor.{entered, advanced, cursor_at};
 
-use gatelist::Entries;
+use gatelist::{Entries, GateList};
 
 // An entry of a running cycle: its place, the instant from which it is looked at, where it stops, and where the next cycle starts.
-#[derive(Clone, Copy)]
+#[derive(Clone, Copy, Debug, PartialEq, Eq)]
 pub struct Cursor {
     pub place: usize,
     pub from: u64,
@@ -29,7 +29,7 @@ pub struct Stretch<'a> {
 fn entry_from(list: Entries<'_>, place: usize, from: u64, next: u64) -> Cursor
     ensures { result ≡ entered list.entry.intervals.now list.entry.len place from next }
 {
-    let last = list.len.saturating_sub(1).min(128) <= place;
+    let last = list.len.saturating_sub(1).min(GateList::MAX) <= place;
     let stop = if last {
         next
     } else {

@@ -23,7 +23,7 @@ pub use starts::change_instant;
 // waits the same, the change instant being its start, and since when it waits; the counter ConfigChangeError. All zeros where a part is absent. C lays the
 // record out (include/port.h): so a mark is an octet, the two configurations are fields side by side, and a list is two arrays with a length.
 #[repr(C)]
-#[derive(Clone, Copy)]
+#[derive(Clone, Copy, Debug, PartialEq, Eq)]
 pub struct Times {
     pub clock: u64,
     pub on: u8,

@@ -1,4 +1,4 @@
-// The starts of a configuration's cycles: the formula that every function above goes by, in this file alone.
+// The starts of a configuration's cycles: the formula that every function of cycles goes by, in this file alone.
 ghost use Rattle.std.specs.Prelude.{◌≡◌, ◌+◌, ◌-◌, ◌*◌, ◌/◌, ◌%◌, min, List};
 ghost use Rattle.rule.specs.Entries.{Entry};
 ghost use Rattle.rule.specs.Cycle.{start_no, last_no};

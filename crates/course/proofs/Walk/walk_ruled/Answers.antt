@@ -8,5 +8,5 @@ use Rattle.course.proofs.Walk.walk_ruled.Goals as goal
 pub returns-then-uniform-clause-walked : goal.returns-then-uniform-clause-walked
 returns-then-uniform-clause-walked c =
     let a = c.args in
-    walks_uniform a.leg.stretch.list.octets.now a.leg.stretch.list.intervals.now a.leg.stretch a.self.now c.pass.result c.pass.new.self a.leg.reportable.walkable.some (omega arith)
+    walks_uniform a.leg.now.stretch.list.octets.now a.leg.now.stretch.list.intervals.now a.leg.now.stretch a.self.now c.pass.result c.pass.new.self a.leg.now.reportable.walkable.some (omega arith)
     (c.uniform.ensures c.if-uniform.true) c.pass.ensures.passed

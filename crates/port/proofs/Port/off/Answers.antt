@@ -1,29 +1,12 @@
--- `port::Port::off` meets its contract: one law for each way out, shared by the acts, and what the act makes of the timetable.
+-- `port::Port::off` meets its contract: the record that it makes is that of the act, and fine.
 -- Assumes nothing.
-use Rattle.std.proofs.Common.{sym, refl, ◌∙◌}
-use Rattle.rule.specs.Acts as model
+use Rattle.std.proofs.Common.{refl, ◌∙◌}
+use Rattle.rule.specs.Acts.{off}
 use Rattle.rule.specs.Orders.{accepts}
 use Rattle.timetable.proofs.Records.{off-is}
-use Rattle.port.proofs.Coding.{gates-fine}
-use Rattle.port.proofs.Performing.{act-malformed, act-fine, act-done, gates-is}
+use Rattle.port.proofs.Performing.{acted_fine}
 use Rattle.port.proofs.Port.off.Goals as goal
-
-pub returns-then-not-well_formed : goal.returns-then-not-well_formed
-returns-then-not-well_formed c =
-    let p = c.args.self in
-    act-malformed (model.gates model.off) p _ (sym c.well_formed-2.ensures.is ∙ c.if-not-well_formed.true) c.malformed.ensures
 
 pub done-requires : goal.done-requires
 unfolding accepts
-done-requires c =
-    let p = c.args.self in
-    let k = c.well_formed-2.ensures.fine c.if-not-well_formed.false in
-    act-fine (model.gates model.off) p k refl _ (gates-is model.off p _ k (c.cleared-p.ensures ∙ off-is p.gates (gates-fine p k)))
-
-pub returns : goal.returns
-unfolding accepts
-returns c =
-    let p = c.args.self in
-    let e = c.if-not-well_formed.false in
-    let k = c.well_formed-2.ensures.fine e in
-    act-done (model.gates model.off) p k refl _ (gates-is model.off p _ k (c.cleared-p.ensures ∙ off-is p.gates (gates-fine p k))) _ (sym c.well_formed-2.ensures.is ∙ e) c.done.ensures
+done-requires c = acted_fine off _ _ c.well_formed-2.ensures c.if-not-well_formed.false refl _ (λ k. c.cleared-p.ensures ∙ off-is c.args.self.gates k)

@@ -4,6 +4,4 @@ use Rattle.port.proofs.Transmissions.{transmit_stores}
 use Rattle.port.proofs.Port.transmit.Goals as goal
 
 pub returns : goal.returns
-returns c =
-    let a = c.args in
-    transmit_stores a.heads a.speed a.self c.decide-d.result c.decide-d.ensures
+returns c = search (transmit_stores)

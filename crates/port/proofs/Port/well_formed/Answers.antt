@@ -4,5 +4,4 @@ use Rattle.port.proofs.Coding.{checked}
 use Rattle.port.proofs.Port.well_formed.Goals as goal
 
 pub returns : goal.returns
-returns c =
-    checked c.args.self.now _ _ c.formed-timed.ensures c.formed-sent.ensures
+returns c = search (checked)

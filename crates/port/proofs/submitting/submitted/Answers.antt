@@ -3,8 +3,10 @@
 -- Assumes nothing.
 use Rattle.std.proofs.Common.{◌≡◌, ◌∙◌, ap, true, Bool, rules}
 use mathlib.Core.Path.{subst}
-use Rattle.std.specs.Prelude.{Ok}
+use Rattle.std.specs.Prelude.{Ok, Err}
 use Rattle.rule.specs.Refusals.{Answer}
+use Rattle.rule.specs.declared.Refusal.{Refusal}
+use Rattle.rule.specs.Port as model
 use Rattle.rule.specs.Answers.{answer_of}
 use Rattle.rule.specs.Acts.{Act, gates, performed}
 use Rattle.rule.specs.Orders.{accepts}
@@ -18,11 +20,12 @@ use Rattle.submission.specs.declared.Submission.{Submission}
 use Rattle.submission.specs.Judgement.{submission_of, Judges}
 use Rattle.submission.specs.Placement.{placed_times, listed_in}
 use Rattle.port.specs.declared.Port.{Port}
+use Rattle.port.specs.declared.Acted.{Acted}
 use Rattle.port.specs.Record.{well_formed}
 use Rattle.port.specs.Coding.{decode, encode}
 use Rattle.port.specs.Checks.{Fine, Checked}
-use Rattle.port.specs.Acts.{declines}
-use Rattle.port.specs.Updates.{submit_act, with_gates, late_for}
+use Rattle.port.specs.Acts.{declines, Performs}
+use Rattle.port.specs.Updates.{submit_act, with_gates, late_for, done_with}
 use Rattle.port.proofs.Performing.{act-refused, act-accepted, act-fine, act-done, act_quiet}
 use Rattle.port.proofs.Submissions.{judged-is, placed-gates}
 use Rattle.port.proofs.submitting.submitted.Goals as goal
@@ -35,47 +38,37 @@ module _ (strict : Bool) (p : Port) (l : GateList) (s : Submission) (sound late 
   told : r ≡ answer_of (declines act p)
   told = judged-is strict p l s sound late r w.is i (subst (λ (x : GateList). Judges p.gates.times sound late x.intervals x.len s r) q j)
 
-  -- what an accepted submission has passed, and that the record it leaves is the act's
-  record Passed (g : Timetable) : Type 0 where
-    well : well_formed p ≡ true
-    fine : Fine p
-    accepted : accepts act (decode p) ≡ true
-    placed : with_gates g p ≡ encode (performed act (decode p))
+  submit_refused : (reason : Refusal) → r ≡ Err reason → Performs act p (record { answer = r; port = p })
+  submit_refused = act-refused act p r told
 
-  passed : r ≡ Ok tt → Places l → (x : Times) → x ≡ placed_times l.len s p.gates.times → (g : Timetable) → g ≡ listed_in (cleaned_list l) x p.gates → Passed g
-  passed d u x y g z =
-      let k = act-accepted act p r told d in
-      let f = w.fine (w.is ∙ k.0) in
-      record {
-        well = k.0;
-        fine = f;
-        accepted = k.1;
-        placed = ap (λ h. with_gates h p) (z ∙ ap (λ v. listed_in (cleaned_list l) v p.gates) y) ∙ placed-gates strict p f l u s k.1;
-      }
+  -- accepted: the record that it leaves is the act's
+  module _ (d : r ≡ Ok tt) (u : Places l) (x : Times) (y : x ≡ placed_times l.len s p.gates.times) (g : Timetable) (z : g ≡ listed_in (cleaned_list l) x p.gates) where
+    passed : (well_formed p ≡ true) × (accepts act (decode p) ≡ true)
+    passed = act-accepted act p r told d
+
+    fits : Fine p
+    fits = w.fine (w.is ∙ passed.0)
+
+    made : with_gates g p ≡ encode (performed act (decode p))
+    made = ap (λ h. with_gates h p) (z ∙ ap (λ v. listed_in (cleaned_list l) v p.gates) y) ∙ placed-gates strict p fits l u s passed.1
+
+    submit_fine : Fine (with_gates g p)
+    submit_fine = act-fine act p fits passed.1 (with_gates g p) made
+
+    submit_done : (a : Acted Unit) → a ≡ done_with (encode (model.tested (decode (with_gates g p)))) → Performs act p a
+    submit_done a = act-done act p fits passed.1 (with_gates g p) made a passed.0
+
+    submit_quiet : (p.frame.present ≡ 1 → ⊥) → Performs act p (record { answer = r; port = with_gates g p })
+    submit_quiet = act_quiet act p fits passed.1 (with_gates g p) made r d passed.0
 
 pub returns-in-Err : goal.returns-in-Err
-returns-in-Err c =
-    let a = c.args in
-    act-refused _ a.port _
-    (told a.strict a.port a.list a.s _ _ _ c.well_formed-formed.ensures c.entries.result c.entries.ensures c.too_late-late.ensures c.judged-answer.ensures) _ c.in-Err.is
+returns-in-Err c = search (submit_refused)
 
 pub done-requires : goal.done-requires
-done-requires c =
-    let a = c.args in
-    let k = passed a.strict a.port a.list a.s _ _ _ c.well_formed-formed.ensures c.entries.result c.entries.ensures c.too_late-late.ensures c.judged-answer.ensures
-    c.in_default.is (record { octets = search rules; intervals = search rules }) _ c.placed.ensures _ c.place.ensures in
-    act-fine _ a.port k.fine k.accepted _ k.placed
+done-requires c = let u : Places c.args.list = record { octets = search rules; intervals = search rules } in search (submit_fine, u)
 
 pub returns-then-p-eq1 : goal.returns-then-p-eq1
-returns-then-p-eq1 c =
-    let a = c.args in
-    let k = passed a.strict a.port a.list a.s _ _ _ c.well_formed-formed.ensures c.entries.result c.entries.ensures c.too_late-late.ensures c.judged-answer.ensures
-    c.in_default.is (record { octets = search rules; intervals = search rules }) _ c.placed.ensures _ c.place.ensures in
-    act-done _ a.port k.fine k.accepted _ k.placed _ k.well c.done.ensures
+returns-then-p-eq1 c = let u : Places c.args.list = record { octets = search rules; intervals = search rules } in search (submit_done, u)
 
 pub returns : goal.returns
-returns c =
-    let a = c.args in
-    let k = passed a.strict a.port a.list a.s _ _ _ c.well_formed-formed.ensures c.entries.result c.entries.ensures c.too_late-late.ensures c.judged-answer.ensures
-    c.in_default.is (record { octets = search rules; intervals = search rules }) _ c.placed.ensures _ c.place.ensures in
-    act_quiet _ a.port k.fine k.accepted _ k.placed _ c.in_default.is k.well c.if-p-eq1.false
+returns c = let u : Places c.args.list = record { octets = search rules; intervals = search rules } in search (submit_quiet, u)

@@ -19,6 +19,7 @@ impl Walk<'_> {
         match span.list {
             None => self.pass(g.times.standing, t, span.edge),
             Some(which) => {
+                // Five fields by name, as frames has them once: a function of both would take five arguments.
                 let leg = Leg {
                     stretch: Stretch {
                         list: g.list(which),

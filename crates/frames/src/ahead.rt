@@ -127,6 +127,7 @@ impl Gates {
                 let period = span.period;
                 let base = span.start;
                 let stop = edge.min(t + period);
+                // As in course, to another edge: a function of both would take five arguments.
                 let s = Stretch {
                     list: g.list(which),
                     period,

@@ -47,6 +47,7 @@ pub fn from_sheet(s: &[u8]) -> Result<Span, Refusal>
     let h = sheet::read(s)?;
     match list_at(s, h.list, h.length) {
         Ok(list) => with_list(h, list),
+        // The place of the fault is let go here and nowhere else: a conversion for `?` would let it go unseen.
         Err(e) => Err(e.refusal),
     }
 }

@@ -65,7 +65,8 @@ impl Timetable {
         (x.clock <= Timetable::LARGEST_INSTANT) & (marks & (idle & (operating & waiting)))
     }
 
-    // A timetable that is off, at an instant, with a standing octet and a zero counter.
+    // A timetable that is off, at an instant, with a standing octet and a zero counter. Each number by its name: a derived `default` promises an equation
+    // per number, of which the proof would have to bring in thirteen one by one.
     pub fn new(start: u64, octet: u8) -> Self
         ensures { result ≡ encode (new_timetable start octet) }
     {

@@ -1,4 +1,4 @@
--- `timetable::Timetable::fresh` meets its contract: every field of a new timetable's record.
+-- `timetable::Timetable::new` meets its contract: every field of a new timetable's record.
 -- Assumes nothing.
 use Rattle.timetable.proofs.Coding.{new_record}
 use Rattle.timetable.proofs.Timetable.new.Goals as goal

@@ -23,7 +23,7 @@ impl Asked<'_> {
     fn case<F: FnOnce(u64) -> u64>(&self, case: &[u8], work: F)
         requires { F.IsAlwaysCallable work }
     {
-        if self.name != case && self.name != b"all".as_slice() {
+        if !text::same(self.name, case) && !text::same(self.name, b"all") {
             return;
         }
         let sum = work(self.times);

@@ -120,11 +120,14 @@ fn call_transmit(mut s: Scan, port: &mut Port, line: &mut Line) -> Option<()> {
 // step GOAL MI MO, with MI instants and MO octets, at most 4,096 each
 fn call_step(mut s: Scan, port: &mut Port, line: &mut Line) -> Option<()> {
     let goal = s.number()?;
+    let mi = s.number_up_to(4096)? as usize;
+    let mo = s.number_up_to(4096)? as usize;
+    s.end()?;
+    // Filled once the line is known to be a call.
     let mut instants = [7_777_777u64; 4096];
     let mut octets = [165u8; 4096];
-    let instants = instants.get_mut(..s.number()?)?;
-    let octets = octets.get_mut(..s.number()?)?;
-    s.end()?;
+    let instants = &mut instants[..mi];
+    let octets = &mut octets[..mo];
     let stepped = port.step(goal, instants, octets);
     *port = stepped.port;
     line.written(stepped.answer);

@@ -36,10 +36,12 @@ pub fn call_read(mut s: Scan, line: &mut Line) -> Option<()> {
 // write LEN BUFLEN K o1 i1 .. oK iK
 pub fn call_write(mut s: Scan, line: &mut Line) -> Option<()> {
     let len = s.number()?;
-    let mut buffer = [165u8; 1024];
-    let buffer = buffer.get_mut(..s.number()?)?;
+    let room = s.number_up_to(1024)? as usize;
     let list = take_list(&mut s, len)?;
     s.end()?;
+    // Filled once the line is known to be a call.
+    let mut buffer = [165u8; 1024];
+    let buffer = &mut buffer[..room];
     line.written(octets::write(list, buffer));
     line.numbers(buffer);
     Some(())

@@ -29,11 +29,12 @@ pub fn say_places(line: &mut Line, octets: &[u8; 128], intervals: &[u32; 128], n
 
 // K and its places, with the smallest K: behind it all places are 0.
 pub fn say_list(line: &mut Line, octets: &[u8; 128], intervals: &[u32; 128]) {
-    let last = octets
-        .iter()
-        .zip(intervals)
-        .rposition(|(octet, interval)| *octet != 0 || *interval != 0);
-    let used = last.map_or(0, |k| k + 1);
+    // Of each array by itself: in pairs, by `zip`, a place takes 23 instructions and not 4 (missed the speed of before)
+    let octet = octets.iter().rposition(|o| *o != 0);
+    let interval = intervals.iter().rposition(|i| *i != 0);
+    let used = octet
+        .map_or(0, |k| k + 1)
+        .max(interval.map_or(0, |k| k + 1));
     line.count(used);
     say_places(line, octets, intervals, used);
 }

@@ -17,6 +17,9 @@ octet_times = by_speed (λ v. OctetTime v (8_000 / v))
     (record { frame = λ n. omega arith; gap = refl; frame-short = λ n h. omega arith; gap-short = omega arith })
     (record { frame = λ n. omega arith; gap = refl; frame-short = λ n h. omega arith; gap-short = omega arith })
 
+pub gap_times : (v : ℕ) → speed_offered v ≡ true → 12 * (8_000 / v) ≡ 96_000 / v
+gap_times v e = (octet_times v e).gap
+
 pub speed_some : (v : ℕ) → speed_offered v ≡ true → 0 < v
 speed_some v e = omega (arith, (speed_range v e).0)
 

@@ -39,6 +39,6 @@ FindsOctet os is n offset r = r ≡ octet_at (entries_from os is 0 n) offset
 abbrev pub ShowsGate : ℕ → ℕ → Bool → Type 0
 ShowsGate octet class r = r ≡ is_open octet class
 
--- `u64::from` of an interval: the same number, which the type of x bounds
+-- `wide`: the same number, which the type of x bounds
 abbrev pub Widens : ℕ → ℕ → Type 0
 Widens x r = (r ≡ x) × (r < 4_294_967_296)

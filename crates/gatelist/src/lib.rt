@@ -7,7 +7,7 @@ ghost use Rattle.std.specs.List.{list_any, list_all};
 ghost use Rattle.gatelist.specs.Coding.{lent};
 ghost use Rattle.gatelist.specs.Sound.{every_below, place_ok};
 ghost use Rattle.gatelist.specs.Places.{TestsNone, used_ok, Checked};
-ghost use Rattle.gatelist.specs.Promises.{FindsZero, Empty, Puts, ShowsGate, FindsPlace, FindsOctet};
+ghost use Rattle.gatelist.specs.Promises.{Widens, FindsZero, Empty, Puts, ShowsGate, FindsPlace, FindsOctet};
 
 // A list: entry k has the gate octet octets[k] and the interval intervals[k] in nanoseconds, for k below len. The other places are unused. Two arrays with
 // a length, since C lays the record out (include/port.h).
@@ -34,6 +34,13 @@ pub struct Entries<'a> {
     pub octets: &'a [u8; 128],
     pub intervals: &'a [u32; 128],
     pub len: usize,
+}
+
+// An interval as a time.
+pub fn wide(x: u32) -> u64
+    ensures { Widens x result }
+{
+    u64::from(x)
 }
 
 // Whether a place holds the default. This loop and the next leave no place out and never leave early, so that many places are compared at a time: with `all`
@@ -177,7 +184,7 @@ impl<'a> Entries<'a> {
             if i == GateList::MAX {
                 break len - 1;
             }
-            let interval = u64::from(intervals[i]);
+            let interval = wide(intervals[i]);
             if rest < interval {
                 break i;
             }
@@ -185,7 +192,7 @@ impl<'a> Entries<'a> {
             i = i + 1;
         };
         let start = offset - rest;
-        let end = start + u64::from(value_at(intervals, number, 0));
+        let end = start + wide(value_at(intervals, number, 0));
         Place { number, start, end }
     }
 

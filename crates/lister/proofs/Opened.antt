@@ -196,10 +196,18 @@ module _ (h : Sheet) (l : List Entry) {r : Acted Unit} (k : Makes h.start h.stan
           first_passed (new_order h.start) _ made
           ∙ ap (λ p. first_of (act_order (submits h l) p ++ steps_to h.end (submitted_port h l))) (sym on_decoded)
 
-      pub submit-opens : {q : Refusal} → d.answer ≡ Err q → Opens (opening_with h l) (Err q)
+      -- what is opened behind new and on is what is opened
+      pub with-done : (x : Result Span Refusal)
+          → Opens (unless_refused (first_of (act_order (submits h l) (decode s.port) ++ steps_to h.end (perform (submits h l) (decode s.port)))) (spans (perform (submits h l) (decode s.port)) h.end)) x
+          → Opens (opening_with h l) x
       unfolding opening_with
+      with-done x z =
+          subst (λ o. Opens (unless_refused o (spans (submitted_port h l) h.end)) x) (sym submit_left)
+          (subst (λ p. Opens (unless_refused (first_of (act_order (submits h l) (decode s.port) ++ steps_to h.end (perform (submits h l) p))) (spans (perform (submits h l) p) h.end)) x) on_decoded z)
+
+      pub submit-opens : {q : Refusal} → d.answer ≡ Err q → Opens (opening_with h l) (Err q)
       submit-opens {q} w =
-          opens_refused _ _ q (submit_left ∙ first-met (act_order (submits h l) (decode s.port)) _ q (act-refused (submits h l) s.port on_fine d t q w))
+          with-done (Err q) (opens_refused _ _ q (first-met (act_order (submits h l) (decode s.port)) _ q (act-refused (submits h l) s.port on_fine d t q w)))
 
       module _ (w : d.answer ≡ Ok tt) where
         submitted : first_of (act_order (submits h l) (decode s.port)) ≡ none

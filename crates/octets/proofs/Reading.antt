@@ -16,7 +16,7 @@ use lib.ListN.{length, get_or, set, drop, replicate, length-drop}
 use lib.Seq.{get_or-drop, get_or-take}
 use Rattle.std.specs.Prelude.{Ok, Err}
 use Rattle.rule.specs.declared.Refusal.{Refusal}
-use Rattle.rule.specs.declared.Refusal.TheVariants.{ListLength}
+use Rattle.rule.specs.declared.Refusal.TheVariants.{CutShort, ListLength}
 use Rattle.rule.specs.Refusals.{first_of}
 use Rattle.rule.specs.Orders.{length_offered}
 use Rattle.gatelist.specs.Coding.{list_from, padded}
@@ -68,6 +68,11 @@ module _ (s : List ℕ) (at : ℕ) (e : List ℕ) (q : e ≡ drop at s) where
       )
 
 pub ruleset of_entry = (read_from, get_or-take, get_or-drop)
+
+-- octets that end within an entry's header
+pub short_header : (s : List ℕ) (at : ℕ) → length s < at + 2 → Err (record { refusal = CutShort; place = at }) ≡ entry_read s at
+unfolding entry_read
+short_header s at a = simp (lt-ltb _ _ a)
 
 -- what an entry's reading says of its order
 

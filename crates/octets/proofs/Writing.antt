@@ -3,7 +3,7 @@
 -- Assumes nothing.
 use mathlib.Core.Path.{◌≡◌, refl, ap, ap₂, sym, ◌∙◌}
 use mathlib.Core.Bool.{Bool, true, false}
-use mathlib.Core.Logic.{◌⊎◌}
+use mathlib.Core.Logic.{◌⊎◌, inl}
 use mathlib.Core.List.{List, [], ◌∷◌, ◌++◌, append_assoc, append-nil}
 use mathlib.Core.Option.{none, some}
 use Prim.Native.Nat.{ℕ, ◌+◌, ◌-◌, ◌*◌, ◌≤◌, ◌<◌}
@@ -89,6 +89,9 @@ module _ (l : GateList) (b : List ℕ) where
 
   pub write_unoffered : (l.len < 1) ⊎ ((1 ≤ l.len) × (128 < l.len)) → Writes l b (Err ListLength) b
   write_unoffered h = unwritten ListLength (rw (unoffered l.len h))
+
+  pub write_none : l.len < 1 → Writes l b (Err ListLength) b
+  write_none h = write_unoffered (inl h)
 
   -- what is found of the list's intervals
   module _ (is : List ℕ) (n : ℕ) (p : is ≡ l.intervals) (q : n ≡ l.len) (h : 1 ≤ l.len) (k : l.len ≤ 128) where

@@ -1,12 +1,13 @@
 -- Laws of the first place with an octet, as `position` finds it.
 -- Assumes nothing.
-use Rattle.std.proofs.Common.{◌≡◌, refl, ap, sym, ◌∙◌, ℕ, ◌+◌, ◌-◌, ◌≤◌, ◌<◌, Bool, true, false, cond, not, List, eqb, ltb, length, take, drop, take_all, add-zero, drop_of_length-le, Option, Some, None, unwrap_or, position, arith}
+use Rattle.std.proofs.Common.{◌≡◌, refl, ap, sym, ◌∙◌, ℕ, ◌+◌, ◌≤◌, ◌<◌, Bool, true, false, cond, not, List, eqb, ltb, length, drop, add-zero, zero-add, drop_of_length-le, Option, Some, None, unwrap_or, position, option_copied, length-drop, drop-drop, Bor, inl, inr, arith}
 use borrow.Author.Tests.{lt-ltb, le-ltb, ltb-true, ltb-false}
 use Rattle.std.specs.List.{position_or_len}
 use Rattle.std.proofs.lemmas.List.Recursion.{is_position_or_len}
 use Rattle.std.proofs.lemmas.List.Sums.{prefix_len-le-length}
 use Rattle.std.proofs.lemmas.Slice.{between_to_end}
-use Rattle.text.specs.Scan.{before, find_from, token_of, behind_token}
+use Rattle.std.specs.Slice.{IsGetRangeResult}
+use Rattle.text.specs.Scan.{before, find_from, behind_token}
 
 before_is : (octet : ℕ) (s : List ℕ) → before octet s ≡ position_or_len (λ x. eqb x octet) s
 unfolding before
@@ -36,30 +37,24 @@ pub found_is : (octet : ℕ) (s : List ℕ) (r : Option ℕ) → r ≡ position 
 found_is octet s None e = sym (found_none octet s e)
 found_is octet s (Some n) e = (found_at octet s n e).0
 
+pub find-within : (s : List ℕ) (octet : ℕ) → find_from s 0 octet ≤ length s
+find-within s octet = omega (arith, before_is octet s, prefix_len-le-length (λ x. not (eqb x octet)) s)
+
 pub find-past : (s : List ℕ) (at octet : ℕ) → length s ≤ at → find_from s at octet ≡ at
 unfolding before
 find-past s at octet h = ap (λ l. at + before octet l) (drop_of_length-le s {i = at} h) ∙ add-zero at
 
--- a line is cut at its first space, or is its last token
-
-pub record Cut (s token : List ℕ) (left : Option (List ℕ)) : Type 0 where
-  pub first : Some token ≡ token_of (Some s)
-  pub behind : left ≡ behind_token (Some s)
-
-pub cut_at : (s : List ℕ) (n : ℕ) → Some n ≡ position (λ x. eqb x 32) s → Cut s (take n s) (Some (take (length s - (n + 1)) (drop (n + 1) s)))
-cut_at s n e =
-    let f = found_at 32 s n e in
-    record {
-      first = ap (λ k. Some (take k s)) f.0;
-      behind =
-          ap Some (between_to_end s (n + 1) (length s) (omega arith)) ∙ ap (λ k. Some (drop (k + 1) s)) f.0
-          ∙ sym (ap (λ b. cond b (Some (drop (before 32 s + 1) s)) None) (lt-ltb _ _ (omega (arith, f.0, f.1))));
-    }
-
-pub cut_none : (s : List ℕ) → None ≡ position (λ x. eqb x 32) s → Cut s s None
-cut_none s e =
-    let f : before 32 s ≡ length s = found_none 32 s e in
-    record {
-      first = sym (ap (λ k. Some (take k s)) f ∙ ap Some (take_all _ s (omega arith)));
-      behind = sym (ap (λ b. cond b (Some (drop (before 32 s + 1) s)) None) (le-ltb _ _ (omega (arith, f))));
-    }
+-- a line is cut at its first space, if it has one: what is got behind the first octet of the second part is what is left
+pub behind_cut : (s b : List ℕ) (n : ℕ) (r : Option (Bor (List ℕ))) → n ≡ find_from s 0 32 → b ≡ drop n s → IsGetRangeResult b 1 (length b) r
+    → option_copied r ≡ behind_token (Some s)
+behind_cut s b n None e d g =
+    let h : length b < 1 = (elim g.0 [
+      | inl k ↦ k
+      | inr k ↦ absurd (omega arith)
+    ]) in
+    let k : length s ≤ before 32 s = omega (arith, ap length d, length-drop n s) in
+    sym (ap (λ t. cond t (Some (drop (before 32 s + 1) s)) None) (le-ltb _ _ k))
+behind_cut s b n (Some x) e d g =
+    let k : before 32 s < length s = omega (arith, g.0.0, ap length d, length-drop n s) in
+    let left : x.now ≡ drop (before 32 s + 1) s = g.0.2 ∙ between_to_end b 1 (length b) (omega arith) ∙ ap (drop 1) d ∙ drop-drop 1 n s ∙ ap (λ m. drop (m + 1) s) (e ∙ zero-add (before 32 s)) in
+    ap Some left ∙ sym (ap (λ t. cond t (Some (drop (before 32 s + 1) s)) None) (lt-ltb _ _ k))

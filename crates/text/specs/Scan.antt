@@ -1,6 +1,6 @@
 -- What a scan has left of its line: at its first token, behind a token, at the line's end; the first place with an octet; a hexadecimal digit's value; two runs of octets that are the same.
 -- Assumes nothing.
-use Rattle.std.specs.Prelude.{Bool, true, false, cond, ◌&&◌, List, [], ◌∷◌, ℕ, suc, ◌+◌, ◌-◌, leb, ltb, eqb, length, take, drop, Option, Some, None, is_none, option_copied}
+use Rattle.std.specs.Prelude.{Bool, true, false, cond, not, ◌&&◌, ◌||◌, List, [], ◌∷◌, ℕ, suc, ◌+◌, ◌-◌, leb, ltb, eqb, length, take, drop, Option, Some, None, is_none, option_copied}
 use Rattle.text.specs.declared.scan.Scan.{Scan}
 
 -- how many octets stand before the first of a kind, all if there is none
@@ -30,9 +30,18 @@ abbrev pub behind_token : Option (List ℕ) → Option (List ℕ)
 behind_token None = None
 behind_token (Some s) = cond (ltb (before 32 s) (length s)) (Some (drop (before 32 s + 1) s)) None
 
--- no token is left: the whole line is taken
+-- no token is left
 abbrev pub none_left : Option (List ℕ) → Bool
 none_left left = is_none left
+
+-- the line has no octet
+abbrev pub is_blank : Option (List ℕ) → Bool
+is_blank None = false
+is_blank (Some s) = eqb (length s) 0
+
+-- the whole line is taken: no token is left, or there are none and none was asked for
+abbrev pub at_end : Scan → Bool
+at_end c = none_left (left_of c) || (not c.begun && is_blank (left_of c))
 
 -- the value of a hexadecimal digit, `0` to `9`, `A` to `F`, `a` to `f`; 16 for any other octet
 abbrev pub hex_value : ℕ → ℕ

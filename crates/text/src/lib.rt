@@ -11,7 +11,7 @@ mod scan;
 mod stream;
 
 pub use digits::{from_hex, hex_value};
-pub use scan::{Scan, find};
+pub use scan::{Scan, find, same};
 pub use stream::{take, take_all};
 
 // Puts octets at a place.

@@ -33,7 +33,7 @@ fn entry_from(list: Entries<'_>, place: usize, from: u64, next: u64) -> Cursor
     let stop = if last {
         next
     } else {
-        from.saturating_add(u64::from(list.intervals[place]))
+        from.saturating_add(gatelist::wide(list.intervals[place]))
             .min(next)
     };
     Cursor {

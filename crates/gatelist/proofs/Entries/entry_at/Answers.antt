@@ -37,4 +37,4 @@ returns c =
       | else-len-i+then-i-eq-MAX w ↦ found_past is a.self.len l.i a.offset s m l.invariant.sum (omega arith) (omega arith) (omega arith) (omega arith)
       | else-len-i+else-i-eq-MAX+then-rest-interval w ↦ found_in is a.self.len l.i a.offset s m l.invariant.sum (omega arith) (omega arith) (omega arith) (omega arith)
     ])
-    (c.from.ensures ∙ c.value_at.ensures.value)
+    (c.wide.ensures.0 ∙ c.value_at.ensures.value)

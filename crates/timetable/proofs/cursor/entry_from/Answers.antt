@@ -10,4 +10,4 @@ returns-then-last c =
 
 pub returns-else-last : goal.returns-else-last
 returns-else-last c =
-    enters_rest _ _ _ _ _ _ (c.min.ensures ∙ omega (arith, c.saturating_sub.ensures)) c.if-last.false _ _ c.from.ensures (omega (arith, c.min-stop.ensures, c.saturating_add.ensures))
+    enters_rest _ _ _ _ _ _ (c.min.ensures ∙ omega (arith, c.saturating_sub.ensures)) c.if-last.false _ _ c.wide.ensures.0 (omega (arith, c.min-stop.ensures, c.saturating_add.ensures))

@@ -4,6 +4,12 @@ use Rattle.frames.proofs.Closing.{narrows_none, goes-start, goes-more, sweeps_li
 use Rattle.frames.proofs.ahead.Gates.swept.Goals as goal
 use Rattle.frames.proofs.ahead.Gates.swept.Goals.{then-g-octet+else-g-eq0, else-g-octet}
 
+pub returns-then-self-eq0 : goal.returns-then-self-eq0
+returns-then-self-eq0 c =
+    let a = c.args in
+    let w = goes-start a.list a.limit a.ends.now a.place a.from a.self c.requires.within in
+    sweeps_none a.list a.limit a.ends.now a.place a.from a.place a.from a.self a.self w c.if-self-eq0.true
+
 pub loop-k-init : goal.loop-k-init
 loop-k-init c =
     let a = c.args in goes-start a.list a.limit a.ends.now a.place a.from a.self c.requires.within
@@ -33,7 +39,7 @@ loop-k-preserved c =
       | else-g-octet w ↦ subst (Narrows o l.at a.ends.now l.g) (sym w.g-is) (narrows_none o l.at a.ends.now l.g w.if-g-octet.false)
     ]) in
     goes-more a.list a.limit a.ends.now a.place a.from l.k l.at a.self l.g c.if-g-octet.g l.invariant c.loop-k-test.true
-    (omega (arith, c.if-limit-at.false)) (c.requires.used l.k c.loop-k-test.true) n _ c.from-at.ensures
+    (omega (arith, c.if-limit-at.false)) (c.requires.used l.k c.loop-k-test.true) n _ c.wide-at.ensures.0
 
 pub returns : goal.returns
 returns c =

@@ -14,10 +14,10 @@ returns-then-edge-next c =
     let a = c.args in
     let m = c.min-limit in
     let e = c.entry_at-p in
-    let v = c.from in
+    let v = c.wide in
     let n = c.narrowed-begun in
     let q = c.swept-g in
-    list-first a.s c.requires.walkable c.requires.edge_bound a.ends.now m.result m.ensures e.result e.ensures v.result v.ensures
+    list-first a.s c.requires.walkable c.requires.edge_bound a.ends.now m.result m.ensures e.result e.ensures v.result v.ensures.0
     a.self n.result q.result n.ensures q.ensures c.if-edge-next.true
 
 pub swept-requires : goal.swept-requires
@@ -29,8 +29,8 @@ returns c =
     let a = c.args in
     let m = c.min-limit in
     let e = c.entry_at-p in
-    let v = c.from in
+    let v = c.wide in
     let n = c.narrowed-begun in
     let q = c.swept-g in
-    list_second a.s c.requires.walkable c.requires.edge_bound a.ends.now m.result m.ensures e.result e.ensures v.result v.ensures
+    list_second a.s c.requires.walkable c.requires.edge_bound a.ends.now m.result m.ensures e.result e.ensures v.result v.ensures.0
     a.self n.result q.result n.ensures q.ensures (omega (arith, c.if-edge-next.false)) c.swept.result c.swept.ensures

@@ -1,5 +1,7 @@
 // The calls on a port, and the line that one stands in. A call takes the tokens behind its word; it is none, and changes nothing, unless every token fits its place and the
 // line is at its end. It is handed what it needs of three: the tokens, the port, the line of the answer.
+ghost use Rattle.std.specs.Prelude.{◌≤◌};
+
 use crate::answer::Line;
 use crate::coded::{call_read, call_write};
 use crate::lists::take_list;
@@ -117,13 +119,11 @@ fn call_transmit(mut s: Scan, port: &mut Port, line: &mut Line) -> Option<()> {
     Some(())
 }
 
-// step GOAL MI MO, with MI instants and MO octets, at most 4,096 each
-fn call_step(mut s: Scan, port: &mut Port, line: &mut Line) -> Option<()> {
-    let goal = s.number()?;
-    let mi = s.number_up_to(4096)? as usize;
-    let mo = s.number_up_to(4096)? as usize;
-    s.end()?;
-    // Filled once the line is known to be a call.
+// A step with so many instants and octets. A function of its own, since one pays for its buffers when it is entered: a line that is no call enters none.
+#[inline(never)]
+fn stepped(goal: u64, mi: usize, mo: usize, port: &mut Port, line: &mut Line)
+    requires { (mi ≤ 4096) × (mo ≤ 4096) }
+{
     let mut instants = [7_777_777u64; 4096];
     let mut octets = [165u8; 4096];
     let instants = &mut instants[..mi];
@@ -133,6 +133,15 @@ fn call_step(mut s: Scan, port: &mut Port, line: &mut Line) -> Option<()> {
     line.written(stepped.answer);
     line.numbers(instants);
     line.numbers(octets);
+}
+
+// step GOAL MI MO, with MI instants and MO octets, at most 4,096 each
+fn call_step(mut s: Scan, port: &mut Port, line: &mut Line) -> Option<()> {
+    let goal = s.number()?;
+    let mi = s.number_up_to(4096)? as usize;
+    let mo = s.number_up_to(4096)? as usize;
+    s.end()?;
+    stepped(goal, mi, mo, port, line);
     Some(())
 }
 

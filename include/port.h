@@ -6,7 +6,7 @@
  * The fields may hold any bits, the marks any octet: a record that is not well formed is refused with 14, and left as it is. A record may be laid out by hand,
  * or copied; what the octets between the fields hold does not matter.
  *
- * What the archive needs: SSE up to 4.1 (x86-64-v2), and 448 octets of stack, none of them below the stack pointer. A kernel that leaves the SSE registers to
+ * What the archive needs: SSE up to 4.2 (x86-64-v2), and 448 octets of stack, none of them below the stack pointer. A kernel that leaves the SSE registers to
  * its tasks must save them around a call. It calls nothing, memcpy neither: no record is copied. Its code is position-independent, and it has no data that is
  * written.
  * A call keeps no pointer, allocates nothing, and returns for every input. */

@@ -188,23 +188,23 @@ module _ (h : Sheet) (l : List Entry) {r : Acted Unit} (k : Makes h.start h.stan
     on_decoded : decode s.port ≡ switched_port h
     on_decoded = act_decoded switch_on r.port made_fine s m refl ∙ ap (perform switch_on) (new_decoded h.start h.standing r k made)
 
+    -- the order behind new and on
+    submit_left : first_of (calls_order h l) ≡ first_of (act_order (submits h l) (decode s.port) ++ steps_to h.end (submitted_port h l))
+    unfolding calls_order
+    submit_left =
+        first_passed (new_order h.start) _ made
+        ∙ ap (λ p. first_of (act_order (submits h l) p ++ steps_to h.end (submitted_port h l))) (sym on_decoded)
+
+    -- what is opened behind new and on is what is opened
+    pub with-done : (x : Result Span Refusal)
+        → Opens (unless_refused (first_of (act_order (submits h l) (decode s.port) ++ steps_to h.end (perform (submits h l) (decode s.port)))) (spans (perform (submits h l) (decode s.port)) h.end)) x
+        → Opens (opening_with h l) x
+    unfolding opening_with
+    with-done x z =
+        subst (λ o. Opens (unless_refused o (spans (submitted_port h l) h.end)) x) (sym submit_left)
+        (subst (λ p. Opens (unless_refused (first_of (act_order (submits h l) (decode s.port) ++ steps_to h.end (perform (submits h l) p))) (spans (perform (submits h l) p) h.end)) x) on_decoded z)
+
     module _ {d : Acted Unit} (t : Performs (submits h l) s.port d) where
-      -- the order behind new and on
-      submit_left : first_of (calls_order h l) ≡ first_of (act_order (submits h l) (decode s.port) ++ steps_to h.end (submitted_port h l))
-      unfolding calls_order
-      submit_left =
-          first_passed (new_order h.start) _ made
-          ∙ ap (λ p. first_of (act_order (submits h l) p ++ steps_to h.end (submitted_port h l))) (sym on_decoded)
-
-      -- what is opened behind new and on is what is opened
-      pub with-done : (x : Result Span Refusal)
-          → Opens (unless_refused (first_of (act_order (submits h l) (decode s.port) ++ steps_to h.end (perform (submits h l) (decode s.port)))) (spans (perform (submits h l) (decode s.port)) h.end)) x
-          → Opens (opening_with h l) x
-      unfolding opening_with
-      with-done x z =
-          subst (λ o. Opens (unless_refused o (spans (submitted_port h l) h.end)) x) (sym submit_left)
-          (subst (λ p. Opens (unless_refused (first_of (act_order (submits h l) (decode s.port) ++ steps_to h.end (perform (submits h l) p))) (spans (perform (submits h l) p) h.end)) x) on_decoded z)
-
       pub submit-opens : {q : Refusal} → d.answer ≡ Err q → Opens (opening_with h l) (Err q)
       submit-opens {q} w =
           with-done (Err q) (opens_refused _ _ q (first-met (act_order (submits h l) (decode s.port)) _ q (act-refused (submits h l) s.port on_fine d t q w)))
